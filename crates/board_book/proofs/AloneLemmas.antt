@@ -12,7 +12,7 @@ use Rattle.tournament.specs.Posting.{reply_to}
 use Rattle.board_book.specs.declared.entry.Entry.{Entry}
 use Rattle.board_book.specs.Entries.{IsEntry, IsJournal, who, ask_on}
 use Rattle.board_book.specs.Tasks.{Task, numbered, Game, Games, begun_game, games_of, turned, after_entry, IsTaskEntry, IsTaskJournal, games_after, entries_of, of_task}
-use Rattle.board_book.specs.Alone.{played, TasksAreAlone, OwnEntriesDecide}
+use Rattle.board_book.specs.Alone.{game_after, TasksAreAlone, OwnEntriesDecide}
 use Rattle.board_book.specs.Keeping.{AreToldApart}
 
 -- an entry of the task, and one of another
@@ -34,7 +34,7 @@ other_stays t x games e = ap (λ (b : Bool). if b then option_map (turned x.1.p)
 
 -- what is said of a task whose own entries are these, in games that come to this one
 abbrev IsAlone : List Entry → Game → Option Game → Type 0
-IsAlone es g final = IsJournal g.task.rules g.task.says es g.state × (final ≡ Some (played es g))
+IsAlone es g final = IsJournal g.task.rules g.task.says es g.state × (final ≡ Some (game_after es g))
 
 entry_there : (games : Games) (t : ℕ) (x : ℕ × Entry) (g : Game) → t ≡ x.0 → games t ≡ Some g → IsTaskEntry games x → IsEntry g.task.rules g.task.says g.state x.1
 entry_there games t x g e there i =
@@ -59,9 +59,9 @@ begins tasks t k there = ap (option_map begun_game) there
 
 pub decide : OwnEntriesDecide
 decide tasks xs ys t k a b there jx jy same ax bx =
-    let x : games_after xs (games_of tasks) t ≡ Some (played (entries_of t xs) (begun_game k)) = (alone xs (games_of tasks) t (begun_game k) jx (begins tasks t k there)).1 in
-    let y : games_after ys (games_of tasks) t ≡ Some (played (entries_of t ys) (begun_game k)) = (alone ys (games_of tasks) t (begun_game k) jy (begins tasks t k there)).1 in
-    let one : a ≡ b = same_Some a b (sym ax ∙ (x ∙ (ap (λ (es : List Entry). Some (played es (begun_game k))) same ∙ (sym y ∙ bx)))) in
+    let x : games_after xs (games_of tasks) t ≡ Some (game_after (entries_of t xs) (begun_game k)) = (alone xs (games_of tasks) t (begun_game k) jx (begins tasks t k there)).1 in
+    let y : games_after ys (games_of tasks) t ≡ Some (game_after (entries_of t ys) (begun_game k)) = (alone ys (games_of tasks) t (begun_game k) jy (begins tasks t k there)).1 in
+    let one : a ≡ b = same_Some a b (sym ax ∙ (x ∙ (ap (λ (es : List Entry). Some (game_after es (begun_game k))) same ∙ (sym y ∙ bx)))) in
     let state : a.state ≡ b.state = ap (λ (g : Game). g.state) one in
     record {
       asked = λ p. ap (λ (s : MatchState). ask_on s p (open_question k.rules s.record_ p)) state;

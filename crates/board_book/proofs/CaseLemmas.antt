@@ -8,7 +8,7 @@ use Rattle.tournament.specs.Journals.{answers_of, RecordOfCase}
 use Rattle.board_book.specs.declared.entry.Entry.{Entry}
 use Rattle.board_book.specs.Entries.{IsJournal, who, state_after}
 use Rattle.board_book.specs.Tasks.{Task, Game, games_of, begun_game, games_after, entries_of}
-use Rattle.board_book.specs.Alone.{played}
+use Rattle.board_book.specs.Alone.{game_after}
 use Rattle.board_book.specs.CaseRecords.{IsRecordOfCase, JournalsHaveTheRecordOfTheCase, TasksHaveTheRecordOfTheirCase}
 use Rattle.board_book.proofs.AloneLemmas.{alone}
 use Rattle.board_book.proofs.BookLemmas.{journal-legal}
@@ -23,9 +23,9 @@ journals_have_the_record one rules says es playable legal complete =
 pub tasks_have_the_record : RecordOfCase → TasksHaveTheRecordOfTheirCase
 tasks_have_the_record one tasks xs t task game there playable legal after complete =
     let begins : games_of tasks t ≡ Some (begun_game task) = ap (option_map begun_game) there in
-    let own : IsJournal task.rules task.says (entries_of t xs) (begun task.rules) × (games_after xs (games_of tasks) t ≡ Some (played (entries_of t xs) (begun_game task))) =
+    let own : IsJournal task.rules task.says (entries_of t xs) (begun task.rules) × (games_after xs (games_of tasks) t ≡ Some (game_after (entries_of t xs) (begun_game task))) =
     alone xs (games_of tasks) t (begun_game task) legal begins in
-    let same : played (entries_of t xs) (begun_game task) ≡ game = some-is _ _ (sym own.1 ∙ after) in
+    let same : game_after (entries_of t xs) (begun_game task) ≡ game = some-is _ _ (sym own.1 ∙ after) in
     subst (λ (g : Game). IsRecordOfCase task.rules task.says g.state.record_) same
     (journals_have_the_record one task.rules task.says (entries_of t xs) playable own.0 (subst (λ (g : Game). is_complete g.state.record_ ≡ true) (sym same) complete))
   where

@@ -20,8 +20,8 @@ use Rattle.board_book.specs.declared.book.Opening.{Opening}
 use Rattle.board_book.specs.declared.entry.Entry.{Entry}
 use Rattle.board_book.specs.Entries.{IsJournal, who, noted}
 use Rattle.board_book.specs.Tasks.{Task, task_of, numbered, Games, begun_game, games_of, IsTaskJournal, games_after, entries_of, BookOf, of_task, tasks_of, openings, noted_for}
-use Rattle.board_book.specs.Alone.{played}
-use Rattle.board_book.specs.Keeping.{all_entries, HasRoom, AreKept, Grows, AreNumbered}
+use Rattle.board_book.specs.Alone.{game_after}
+use Rattle.board_book.specs.Keeping.{all_entries, HasRoom, AreKept, Grows, NumbersAgree}
 use Rattle.board_book.proofs.AloneLemmas.{alone, journals_join, block_is_legal, entries_join, entries_of_block, entries_of_others, journal_rest}
 
 -- numbers and places
@@ -102,7 +102,7 @@ module _ {N M : Type 0} where
   pub task_there : (ruling : N → Ruling) (says : M → Says) (bs : List (BookOf N M)) (t : ℕ) (b : BookOf N M) → numbered bs t ≡ Some b → numbered (tasks_of ruling says (openings bs)) t ≡ Some (task_of ruling says b.opening)
   task_there ruling says bs t b there = numbered_map (task_of ruling says) (openings bs) t b.opening (numbered_map (λ (c : BookOf N M). c.opening) bs t b there)
 
-  pub are_numbered : (ruling : N → Ruling) (says : M → Says) → AreNumbered ruling says
+  pub are_numbered : (ruling : N → Ruling) (says : M → Says) → NumbersAgree ruling says
   are_numbered ruling says = record {
     book = λ bs t b there. numbered_map (λ (c : BookOf N M). c.opening) bs t b there;
     opening = λ heads t h there. numbered_map (task_of ruling says) heads t h there;
@@ -130,13 +130,13 @@ module _ {N M : Type 0} where
       let some : 0 < t = is_positive bs t b there in
       let heads : openings (set bs (t - 1) c) ≡ openings bs = map_set_same (λ (x : BookOf N M). x.opening) bs (t - 1) b c here grows.opening in
       let own : entries_of t journal ≡ b.journal = kept.own t b there in
-      let now : games_after journal games t ≡ Some (played b.journal (begun_game k)) =
-      (alone journal games t (begun_game k) kept.legal (game_there ruling says bs t b there)).1 ∙ ap (λ (fs : List Entry). Some (played fs (begun_game k))) own in
+      let now : games_after journal games t ≡ Some (game_after b.journal (begun_game k)) =
+      (alone journal games t (begun_game k) kept.legal (game_there ruling says bs t b there)).1 ∙ ap (λ (fs : List Entry). Some (game_after fs (begun_game k))) own in
       let whole : IsJournal k.rules k.says (b.journal ++ es) (begun k.rules) = subst (λ (fs : List Entry). IsJournal k.rules k.says fs (begun k.rules)) grows.journal
       (subst (λ (o : Opening N M). IsJournal (rules_of (ruling o.judge) o.setup) (says o.provers) c.journal (begun (rules_of (ruling o.judge) o.setup))) grows.opening grows.legal) in
       let rest : IsJournal k.rules k.says es (turns k.rules k.says (who b.journal) (begun k.rules)) = journal_rest k.rules k.says b.journal es (begun k.rules) whole in
       let legal : IsTaskJournal (journal ++ of_task t es) games =
-      journals_join journal (of_task t es) games kept.legal (block_is_legal t es (games_after journal games) (played b.journal (begun_game k)) now rest) in
+      journals_join journal (of_task t es) games kept.legal (block_is_legal t es (games_after journal games) (game_after b.journal (begun_game k)) now rest) in
       let long : length c.journal ≡ length b.journal + length es = ap length grows.journal ∙ length-append b.journal es in
       let total : all_entries (set bs (t - 1) c) + length b.journal ≡ all_entries bs + length c.journal = total_set bs (t - 1) b c here in
       let added : length (journal ++ of_task t es) ≡ length journal + length es = length-append journal (of_task t es) ∙ ap (λ (n : ℕ). length journal + n) (length-map es (λ (e : Entry). (t, e))) in

@@ -11,15 +11,15 @@ use Rattle.board_book.specs.Entries.{IsJournal, who, ask_on}
 use Rattle.board_book.specs.Tasks.{Task, numbered, Game, Games, games_of, IsTaskJournal, games_after, entries_of}
 
 -- a game after entries of its own
-abbrev pub played : List Entry → Game → Game
-played es g = record { task = g.task; state = turns g.task.rules g.task.says (who es) g.state }
+abbrev pub game_after : List Entry → Game → Game
+game_after es g = record { task = g.task; state = turns g.task.rules g.task.says (who es) g.state }
 
 -- from any games on: the entries of a task are a legal journal of that task alone, with the same replies, and the task has the state after
 -- these alone
 abbrev pub TasksAreAlone : Type 0
 TasksAreAlone =
     (xs : List (ℕ × Entry)) (games : Games) (t : ℕ) (g : Game) → IsTaskJournal xs games → games t ≡ Some g →
-    IsJournal g.task.rules g.task.says (entries_of t xs) g.state × (games_after xs games t ≡ Some (played (entries_of t xs) g))
+    IsJournal g.task.rules g.task.says (entries_of t xs) g.state × (games_after xs games t ≡ Some (game_after (entries_of t xs) g))
 
 -- two games are alike if what is asked, what a post is answered, and the record are the same
 pub record AreAlike (task : Task) (a b : MatchState) : Type 0 where

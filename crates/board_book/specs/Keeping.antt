@@ -60,7 +60,7 @@ module _ {N M : Type 0} where
     pub complete : IfOk result (λ _. is_complete left.game.record_ ≡ true)
 
 -- an opening has the number of its book, and a task the number of its opening, from 1 to their count
-pub record AreNumbered {N M : Type 0} (ruling : N → Ruling) (says : M → Says) : Type 0 where
+pub record NumbersAgree {N M : Type 0} (ruling : N → Ruling) (says : M → Says) : Type 0 where
   pub book : (books : List (BookOf N M)) (t : ℕ) (b : BookOf N M) → numbered books t ≡ Some b → numbered (openings books) t ≡ Some b.opening
   pub opening : (heads : List (Opening N M)) (t : ℕ) (h : Opening N M) → numbered heads t ≡ Some h → numbered (tasks_of ruling says heads) t ≡ Some (task_of ruling says h)
   pub task : (heads : List (Opening N M)) (t : ℕ) (k : Task) → numbered (tasks_of ruling says heads) t ≡ Some k → (0 < t) × (t ≤ length heads)

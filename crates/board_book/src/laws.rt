@@ -1,7 +1,7 @@
 //! Laws, each the contract of a function that does nothing. Their clauses hold of all journals, openings and answerers.
 ghost use Rattle.board_book.specs.Alone.{TasksAreAlone, OwnEntriesDecide};
 ghost use Rattle.board_book.specs.CaseRecords.{JournalsHaveTheRecordOfTheCase, TasksHaveTheRecordOfTheirCase};
-ghost use Rattle.board_book.specs.Keeping.{AreNumbered, AreToldApart, SayInOrder};
+ghost use Rattle.board_book.specs.Keeping.{NumbersAgree, AreToldApart, SayInOrder};
 
 use bisect_game::{Answerer, Judge, Provers};
 use tournament::one_record_of_a_case;
@@ -28,7 +28,7 @@ pub fn journals_have_the_record_of_the_case()
 /// An opening has the number of its book, and a task the number of its opening, from 1 to their count.
 #[tactic(auto, using(crate::proofs::KeepingLemmas::are_numbered))]
 pub fn tasks_are_numbered<J: Judge, P: Provers>()
-    ensures { AreNumbered J.ruling P.says }
+    ensures { NumbersAgree J.ruling P.says }
 {}
 
 /// The entries of a task are separated from those of others: in a journal behind another, and in entries that are all its own.

@@ -29,7 +29,7 @@ use Rattle.plain_answers.specs.Plain.{plain, plain_root, plain_says}
 use Rattle.prover_run.specs.CaseScripts.{script_says, case_says}
 use Rattle.case_match.specs.Match.{rules_of_case, says_of_case, truth_of_case}
 use Rattle.case_match.specs.PlainTruth.{PlainAnswersAreTrue}
-use Rattle.case_match.specs.HonestScripts.{untampered, IsHonest, UntouchedProversAreTruthful, TrueTapesAreTruthful}
+use Rattle.case_match.specs.HonestScripts.{untampered_with, IsHonest, UntouchedProversAreTruthful, TrueTapesAreTruthful}
 use Rattle.prover_script.specs.Manners.{asks_roots, written}
 use Rattle.bisect_game.specs.Truth.{Truth}
 use Rattle.bisect_game.specs.Says.{Says}
@@ -38,15 +38,15 @@ use Rattle.bisect_game.specs.Says.{Says}
 
 abbrev PlainSays : Type 0
 PlainSays = (digest : List ℕ → List ℕ) (start : State) (bound : ℕ) (q : Question) (passes : ℕ) →
-    script_says digest start bound (untampered Plain) q passes ≡ Some (plain digest (state_at start) bound q.kind)
+    script_says digest start bound (untampered_with Plain) q passes ≡ Some (plain digest (state_at start) bound q.kind)
 
 abbrev LateSays : Type 0
 LateSays = (digest : List ℕ → List ℕ) (start : State) (bound many : ℕ) (q : Question) (passes : ℕ) → many ≤ passes →
-    script_says digest start bound (untampered (Late many)) q passes ≡ Some (plain digest (state_at start) bound q.kind)
+    script_says digest start bound (untampered_with (Late many)) q passes ≡ Some (plain digest (state_at start) bound q.kind)
 
 abbrev OutputSays : Type 0
 OutputSays = (digest : List ℕ → List ℕ) (start : State) (bound : ℕ) (q : Question) (passes : ℕ) →
-    script_says digest start bound (untampered (Output (state_at start bound).output)) q passes ≡ Some (plain digest (state_at start) bound q.kind)
+    script_says digest start bound (untampered_with (Output (state_at start bound).output)) q passes ≡ Some (plain digest (state_at start) bound q.kind)
 
 abbrev pub SaysByScript : Type 0
 SaysByScript = (digest : List ℕ → List ℕ) (start : State) (bound : ℕ) (scripts : List Script) (p : ℕ) (script : Script) →
@@ -54,11 +54,11 @@ SaysByScript = (digest : List ℕ → List ℕ) (start : State) (bound : ℕ) (s
 
 abbrev ForgerySays : Type 0
 ForgerySays = (digest : List ℕ → List ℕ) (start : State) (bound step reg value : ℕ) (q : Question) (passes : ℕ) → (q.kind ≡ kind.Proof step → slice_index (state_at start (min step bound)).regs reg ≡ value) →
-    script_says digest start bound (untampered (Forge step reg value)) q passes ≡ Some (plain digest (state_at start) bound q.kind)
+    script_says digest start bound (untampered_with (Forge step reg value)) q passes ≡ Some (plain digest (state_at start) bound q.kind)
 
 abbrev NoiseSays : Type 0
 NoiseSays = (digest : List ℕ → List ℕ) (start : State) (bound seed : ℕ) (q : Question) (passes : ℕ) → asks_roots q.kind ≡ false →
-    script_says digest start bound (untampered (Noise seed)) q passes ≡ Some (plain digest (state_at start) bound q.kind)
+    script_says digest start bound (untampered_with (Noise seed)) q passes ≡ Some (plain digest (state_at start) bound q.kind)
 
 abbrev TapeSays : Type 0
 TapeSays = (digest : List ℕ → List ℕ) (start : State) (bound : ℕ) (tamper : Tamper) (entries : List TapeAnswer) (q : Question) (passes : ℕ) →
@@ -173,13 +173,13 @@ pub passes-by : (o : Option Answer) (b : Bool) → b ≡ true → (if b then Non
 passes-by o true e = refl
 passes-by o false e = absurd (cc)
 
-late-passes : (digest : List ℕ → List ℕ) (start : State) (bound many : ℕ) (q : Question) (n : ℕ) → n < many → script_says digest start bound (untampered (Late many)) q n ≡ None
+late-passes : (digest : List ℕ → List ℕ) (start : State) (bound many : ℕ) (q : Question) (n : ℕ) → n < many → script_says digest start bound (untampered_with (Late many)) q n ≡ None
 late-passes digest start bound many q n lt = let yes : nat_lt n many ≡ true = grind (arith, nat_tests) in passes-by (plain_says digest (run_at Untouched start) bound q n) (nat_lt n many) yes
 
-answers-by : (digest : List ℕ → List ℕ) (laws : ScriptLaws) (c : CaseData) (start : State) (p : ℕ) (manner : Manner) (q : Question) → slice_get c.provers (p - 1) ≡ Some (untampered manner) → IsHonest c start manner → IsWithinBound c.bound q.kind →
+answers-by : (digest : List ℕ → List ℕ) (laws : ScriptLaws) (c : CaseData) (start : State) (p : ℕ) (manner : Manner) (q : Question) → slice_get c.provers (p - 1) ≡ Some (untampered_with manner) → IsHonest c start manner → IsWithinBound c.bound q.kind →
     IsTrueAnswer (truth_of_case digest c start) q.kind (plain digest (state_at start) c.bound q.kind) → AnswersTruly (says_of_case digest c start) c.patience (truth_of_case digest c start) p q
 answers-by digest laws c start p Plain q is honest within true_ =
-    let says : case_says digest start c.bound c.provers p ≡ script_says digest start c.bound (untampered Plain) = laws.by_script digest start c.bound c.provers p _ is in
+    let says : case_says digest start c.bound c.provers p ≡ script_says digest start c.bound (untampered_with Plain) = laws.by_script digest start c.bound c.provers p _ is in
     record {
       passes = 0;
       few = omega arith;
@@ -189,7 +189,7 @@ answers-by digest laws c start p Plain q is honest within true_ =
       is_true = true_;
     }
 answers-by digest laws c start p (Late many) q is honest within true_ =
-    let says : case_says digest start c.bound c.provers p ≡ script_says digest start c.bound (untampered (Late many)) = laws.by_script digest start c.bound c.provers p _ is in
+    let says : case_says digest start c.bound c.provers p ≡ script_says digest start c.bound (untampered_with (Late many)) = laws.by_script digest start c.bound c.provers p _ is in
     record {
       passes = many;
       few = honest;
@@ -200,8 +200,8 @@ answers-by digest laws c start p (Late many) q is honest within true_ =
     }
 answers-by digest laws c start p (Silent from) q is honest within true_ = absurd honest
 answers-by digest laws c start p (Output bytes) q is honest within true_ =
-    let same : slice_get c.provers (p - 1) ≡ Some (untampered (Output (state_at start c.bound).output)) = is ∙ ap (λ (o : List ℕ). Some (untampered (Output o))) honest in
-    let says : case_says digest start c.bound c.provers p ≡ script_says digest start c.bound (untampered (Output (state_at start c.bound).output)) =
+    let same : slice_get c.provers (p - 1) ≡ Some (untampered_with (Output (state_at start c.bound).output)) = is ∙ ap (λ (o : List ℕ). Some (untampered_with (Output o))) honest in
+    let says : case_says digest start c.bound c.provers p ≡ script_says digest start c.bound (untampered_with (Output (state_at start c.bound).output)) =
     laws.by_script digest start c.bound c.provers p _ same in
     record {
       passes = 0;
@@ -212,7 +212,7 @@ answers-by digest laws c start p (Output bytes) q is honest within true_ =
       is_true = true_;
     }
 answers-by digest laws c start p (Forge step reg value) q is honest within true_ =
-    let says : case_says digest start c.bound c.provers p ≡ script_says digest start c.bound (untampered (Forge step reg value)) = laws.by_script digest start c.bound c.provers p _ is in
+    let says : case_says digest start c.bound c.provers p ≡ script_says digest start c.bound (untampered_with (Forge step reg value)) = laws.by_script digest start c.bound c.provers p _ is in
     record {
       passes = 0;
       few = omega arith;
@@ -226,7 +226,7 @@ answers-by digest laws c start p (Forge step reg value) q is honest within true_
       is_true = true_;
     }
 answers-by digest laws c start p (Noise seed) q is honest within true_ =
-    let says : case_says digest start c.bound c.provers p ≡ script_says digest start c.bound (untampered (Noise seed)) = laws.by_script digest start c.bound c.provers p _ is in
+    let says : case_says digest start c.bound c.provers p ≡ script_says digest start c.bound (untampered_with (Noise seed)) = laws.by_script digest start c.bound c.provers p _ is in
     record {
       passes = 0;
       few = omega arith;

@@ -32,7 +32,7 @@ use Rattle.tournament.specs.Truthful.{IsTruthfulProver, AnswersTruly}
 use Rattle.rv_step.specs.State.{State}
 use Rattle.rv_step.specs.Step.{step, state_at}
 use Rattle.rv_step.specs.Valid.{IsValid}
-use Rattle.segment_replay.specs.Roots.{own_root}
+use Rattle.segment_replay.specs.Roots.{root_of_state}
 use Rattle.step_referee.specs.MachineRuling.{machine_ruling}
 use Rattle.checkpoint_run.specs.TamperedRun.{tampered, run_from, run_at}
 use Rattle.checkpoint_run.specs.ValidRuns.{IsTamperInRange, TamperedRunsKeepValidStates}
@@ -187,7 +187,7 @@ place-of at i = elim (cases_Bool (nat_lt (i + 1) at)) [
 
 module _ (digest : List ℕ → List ℕ) (laws : TamperLaws digest) where
   abbrev root-of : State → Digest32
-  root-of s = record { 0 = own_root digest s }
+  root-of s = record { 0 = root_of_state digest s }
 
   -- THE RUN OF A PROVER as the game sees it
 

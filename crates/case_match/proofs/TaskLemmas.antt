@@ -25,7 +25,7 @@ use Rattle.case_reader.specs.Case.{CaseData, data_of}
 use Rattle.case_match.specs.declared.opening.LoadedCase.{LoadedCase}
 use Rattle.case_match.specs.declared.referee.Ended.{Ended}
 use Rattle.case_match.specs.Match.{start_root, rules_of_case, says_of_case, ending_of_case, endings_of_cases, AreSettledUp, RecordsOfCasesAreSettledUp}
-use Rattle.case_match.specs.Openings.{IsFresh, ended_alone, ended_of, opening_of_case, opening_of}
+use Rattle.case_match.specs.Openings.{IsFresh, ended_alone, ended_of_loaded, opening_of_case, opening_of_loaded}
 
 -- lists
 
@@ -124,15 +124,15 @@ only-last {A} xs rest o x y one parts is = by rest (sym one ∙ (parts ∙ ap (�
 
 -- how the cases of openings end
 
-pub ended-as-loaded : (digest : List ℕ → List ℕ) (ls : List LoadedCase) (hs : List (Opening MachineNames CaseScripts)) (ends : List Ended) → hs ≡ map (opening_of digest) ls
-    → ends ≡ map (ended_alone (λ (n : MachineNames). machine_ruling digest n.version) (λ (n : CaseScripts). case_says digest n.start n.bound n.scripts)) hs → ends ≡ map (ended_of digest) ls
+pub ended-as-loaded : (digest : List ℕ → List ℕ) (ls : List LoadedCase) (hs : List (Opening MachineNames CaseScripts)) (ends : List Ended) → hs ≡ map (opening_of_loaded digest) ls
+    → ends ≡ map (ended_alone (λ (n : MachineNames). machine_ruling digest n.version) (λ (n : CaseScripts). case_says digest n.start n.bound n.scripts)) hs → ends ≡ map (ended_of_loaded digest) ls
 ended-as-loaded digest ls hs ends opened are =
     are
     ∙ (ap (map (ended_alone (λ (n : MachineNames). machine_ruling digest n.version) (λ (n : CaseScripts). case_says digest n.start n.bound n.scripts))) opened
-    ∙ sym (map_twice (ended_alone (λ (n : MachineNames). machine_ruling digest n.version) (λ (n : CaseScripts). case_says digest n.start n.bound n.scripts)) (opening_of digest) ls))
+    ∙ sym (map_twice (ended_alone (λ (n : MachineNames). machine_ruling digest n.version) (λ (n : CaseScripts). case_says digest n.start n.bound n.scripts)) (opening_of_loaded digest) ls))
 
-pub as-many-books : (digest : List ℕ → List ℕ) (ls : List LoadedCase) (books : List (BookOf MachineNames CaseScripts)) → openings books ≡ map (opening_of digest) ls → length books ≡ length ls
-as-many-books digest ls books opened = sym (length-map books (λ (b : BookOf MachineNames CaseScripts). b.opening)) ∙ (ap length opened ∙ length-map ls (opening_of digest))
+pub as-many-books : (digest : List ℕ → List ℕ) (ls : List LoadedCase) (books : List (BookOf MachineNames CaseScripts)) → openings books ≡ map (opening_of_loaded digest) ls → length books ≡ length ls
+as-many-books digest ls books opened = sym (length-map books (λ (b : BookOf MachineNames CaseScripts). b.opening)) ∙ (ap length opened ∙ length-map ls (opening_of_loaded digest))
 
 -- a case that was read can be played
 
@@ -147,7 +147,7 @@ record-settled law digest c start r is =
 -- cases and machines, and how they end
 
 abbrev pub endings-of-loaded : (List ℕ → List ℕ) → List LoadedCase → List (Record × Verdict)
-endings-of-loaded digest ls = map (λ (end : Ended). (end.match_record, end.verdict)) (map (ended_of digest) ls)
+endings-of-loaded digest ls = map (λ (end : Ended). (end.match_record, end.verdict)) (map (ended_of_loaded digest) ls)
 
 pub all-fresh : (digest : List ℕ → List ℕ) (ls : List LoadedCase) (starts : List Machine) → map (λ (l : LoadedCase). l.start) ls ≡ starts → All (IsChained digest) starts
     → All (λ (m : Machine). m.output.items ≡ []) starts → All (λ (l : LoadedCase). IsFresh digest l.start) ls

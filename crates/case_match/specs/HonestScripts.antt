@@ -16,9 +16,9 @@ use Rattle.case_reader.specs.Case.{CaseData}
 use Rattle.case_match.specs.Match.{rules_of_case, record_of_case, truth_of_case, final_state}
 use Rattle.case_match.specs.TruthfulInCase.{IsTruthfulInCase, IsInRange}
 
--- a script by which nothing is wrong with the prover's run. The script {} is `untampered Plain`.
-abbrev pub untampered : Manner → Script
-untampered manner = record { tamper = Untouched; manner = manner }
+-- a script by which nothing is wrong with the prover's run. The script {} is `untampered_with Plain`.
+abbrev pub untampered_with : Manner → Script
+untampered_with manner = record { tamper = Untouched; manner = manner }
 
 -- a manner that is honest in a case whatever is asked: it answers at once, or after no more passes than the patience, or it states
 -- the output of the sequential run, or forges a register to what it holds in that step, or makes noise in a run of one step, of
@@ -37,7 +37,7 @@ IsHonest c start (Tape entries) = ⊥
 abbrev pub UntouchedProversAreTruthful : (List ℕ → List ℕ) → Type 0
 UntouchedProversAreTruthful digest =
     (c : CaseData) (start : State) (p : ℕ) (manner : Manner) → IsInRange c start → 0 < p →
-    slice_get c.provers (p - 1) ≡ Some (untampered manner) → IsHonest c start manner → IsTruthfulInCase digest c start p
+    slice_get c.provers (p - 1) ≡ Some (untampered_with manner) → IsHonest c start manner → IsTruthfulInCase digest c start p
 
 -- a tape on which the true answer is the first one for each question that the record of the case asks the prover
 abbrev pub IsTrueTape : (List ℕ → List ℕ) → CaseData → State → ℕ → List TapeAnswer → Type 0

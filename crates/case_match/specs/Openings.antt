@@ -43,8 +43,8 @@ opening_of_case digest c start =
 
 -- OF A LOADED CASE
 
-abbrev pub opening_of : (List ℕ → List ℕ) → LoadedCase → Opening MachineNames CaseScripts
-opening_of digest l = opening_of_case digest (data_of l.case.now) (state_of l.start)
+abbrev pub opening_of_loaded : (List ℕ → List ℕ) → LoadedCase → Opening MachineNames CaseScripts
+opening_of_loaded digest l = opening_of_case digest (data_of l.case.now) (state_of l.start)
 
-abbrev pub ended_of : (List ℕ → List ℕ) → LoadedCase → Ended
-ended_of digest l = ended_case digest (data_of l.case.now) (state_of l.start)
+abbrev pub ended_of_loaded : (List ℕ → List ℕ) → LoadedCase → Ended
+ended_of_loaded digest l = ended_case digest (data_of l.case.now) (state_of l.start)

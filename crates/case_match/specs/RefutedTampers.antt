@@ -12,7 +12,7 @@ use Rattle.bisect_game.specs.Parting.{HasCollided}
 use Rattle.rv_step.specs.State.{State}
 use Rattle.checkpoint_run.specs.ValidRuns.{IsTamperInRange}
 use Rattle.case_reader.specs.Case.{CaseData}
-use Rattle.case_reader.specs.ReadTampers.{IsCaseOf}
+use Rattle.case_reader.specs.ReadTampers.{HoldsCase}
 use Rattle.case_match.specs.Match.{rules_of_case, record_of_case, truth_of_case}
 use Rattle.case_match.specs.PartingRuns.{run_in_game, AnswersByItsRun}
 use Rattle.case_match.specs.TruthfulInCase.{IsTruthfulInCase, IsInRange}
@@ -61,10 +61,10 @@ TampersAreRefuted digest =
 
 abbrev pub TampersOfCasesAreInRange : Type 0
 TampersOfCasesAreInRange =
-    (bytes : List ℕ) (c : CaseData) (k : ℕ) (script : Script) → IsCaseOf bytes c → slice_get c.provers k ≡ Some script → IsTamperInRange script.tamper
+    (bytes : List ℕ) (c : CaseData) (k : ℕ) (script : Script) → HoldsCase bytes c → slice_get c.provers k ≡ Some script → IsTamperInRange script.tamper
 
 abbrev pub ReadTampersAreRefuted : (List ℕ → List ℕ) → Type 0
 ReadTampersAreRefuted digest =
-    (bytes : List ℕ) (c : CaseData) (start : State) (p q : ℕ) (script : Script) → IsCaseOf bytes c → IsInRange c start → IsTruthfulInCase digest c start p → 0 < q →
+    (bytes : List ℕ) (c : CaseData) (start : State) (p q : ℕ) (script : Script) → HoldsCase bytes c → IsInRange c start → IsTruthfulInCase digest c start p → 0 < q →
     slice_get c.provers (q - 1) ≡ Some script → AnswersByItsRun c script.manner →
     AllTampersRefuted digest c start script.tamper p q (record_of_case digest c start).disputes

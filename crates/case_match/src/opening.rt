@@ -7,7 +7,7 @@ ghost use Rattle.board_book.specs.Tasks.{openings, sayings};
 ghost use Rattle.prover_run.specs.CaseScripts.{case_says};
 ghost use Rattle.case_reader.specs.Case.{data_of};
 ghost use Rattle.case_match.specs.Options.{AreAtLeastOne};
-ghost use Rattle.case_match.specs.Openings.{IsFresh, opening_of_case, opening_of, ended_of};
+ghost use Rattle.case_match.specs.Openings.{IsFresh, opening_of_case, opening_of_loaded, ended_of_loaded};
 ghost use Rattle.deposits.specs.Balances.{IsSettledUp};
 
 use crate::laws::records_of_cases_are_settled_up;
@@ -131,7 +131,7 @@ fn open_matches<D: Replays>(
 ) -> Result<OpenedMatches<D>, Memory>
     requires fresh { All (λ l. IsFresh D.digest_of l.start) loads.items }
     requires options { AreAtLeastOne options }
-    ensures openings { IfOk result (λ opened. openings opened.books.items ≡ map (opening_of D.digest_of) loads.entry.items) }
+    ensures openings { IfOk result (λ opened. openings opened.books.items ≡ map (opening_of_loaded D.digest_of) loads.entry.items) }
     ensures empty { IfOk result (λ opened. All (λ b. b.journal ≡ []) opened.books.items) }
     ensures says { IfOk result (λ opened. map ⟦<Scripted<RunAnswerer<D>, D> as Answerer>⟧.answers opened.answerers.items ≡ sayings ⟦<CaseProvers<D> as Provers>⟧.says (openings opened.books.items)) }
 {
@@ -173,7 +173,7 @@ where
     requires few { length loads.items ≤ 8 }
     requires fresh { All (λ l. IsFresh D.digest_of l.start) loads.items }
     requires options { AreAtLeastOne options }
-    ensures { IfOk result (λ ends. ends.items ≡ map (ended_of D.digest_of) loads.entry.items) }
+    ensures { IfOk result (λ ends. ends.items ≡ map (ended_of_loaded D.digest_of) loads.entry.items) }
 {
     let OpenedMatches {
         books,
@@ -202,7 +202,7 @@ where
     D: Send + Sync,
     requires fresh { IsFresh D.digest_of loaded.start }
     requires options { AreAtLeastOne options }
-    ensures ended { IfOk result (λ end. end ≡ ended_of D.digest_of loaded.entry) }
+    ensures ended { IfOk result (λ end. end ≡ ended_of_loaded D.digest_of loaded.entry) }
     ensures settled_up { IfOk result (λ end. IsSettledUp (length loaded.entry.case.now.provers) end.match_record) }
 {
     records_of_cases_are_settled_up();

@@ -14,7 +14,7 @@ use Rattle.case_reader.specs.declared.fault.Key.TheVariants as keys
 use Rattle.serde_json.specs.Find.{get}
 use Rattle.case_reader.specs.Key.{key_text}
 use Rattle.case_reader.specs.Case.{case_of, case_at}
-use Rattle.case_reader.specs.Fields.{field, text_in, bytes_in, number_of, number_in, number_if_there, optional_number_in, has_tasks, single_in, format_in, image_in, input_in, version_in, fan_in, array_in, provers_in}
+use Rattle.case_reader.specs.Fields.{field, text_field, bytes_field, number_of, number_field, number_if_there, optional_number_field, has_tasks, single_in, format_in, image_in, input_in, version_in, fan_in, array_field, provers_in}
 use Rattle.case_reader.specs.Provers.{scripts_in}
 
 -- a reading that doesn't end as out of memory
@@ -43,13 +43,13 @@ else-free false x e other = λ is. absurd (cc is)
 field-free : (key : Key) (tree : Data) → IsFree (field key tree)
 field-free key tree = some-free _ (Missing key) (λ is. cc is)
 
-text-free : (key : Key) (tree : Data) → IsFree (text_in key tree)
-unfolding text_in
+text-free : (key : Key) (tree : Data) → IsFree (text_field key tree)
+unfolding text_field
 text-free key tree = then-free (field key tree) _ (field-free key tree) (λ value. some-free _ (WrongType key) (λ is. cc is))
 
-bytes-free : (key : Key) (tree : Data) → IsFree (bytes_in key tree)
-unfolding bytes_in
-bytes-free key tree = then-free (text_in key tree) _ (text-free key tree) (λ text. some-free _ (BadHex key) (λ is. cc is))
+bytes-free : (key : Key) (tree : Data) → IsFree (bytes_field key tree)
+unfolding bytes_field
+bytes-free key tree = then-free (text_field key tree) _ (text-free key tree) (λ text. some-free _ (BadHex key) (λ is. cc is))
 
 value-free : (key : Key) (low high : ℕ) (value : Data) → IsFree (number_of key low high value)
 unfolding number_of
@@ -58,16 +58,16 @@ value-free key low high value =
     (some-free (option_and_then as_u64 (as_number value)) (WrongType key) (λ is. cc is))
     (λ number. if-free (nat_le low number && nat_le number high) number (OutOfRange key) (λ is. cc is))
 
-number-free : (key : Key) (low high : ℕ) (tree : Data) → IsFree (number_in key low high tree)
-unfolding number_in
+number-free : (key : Key) (low high : ℕ) (tree : Data) → IsFree (number_field key low high tree)
+unfolding number_field
 number-free key low high tree = then-free (field key tree) _ (field-free key tree) (value-free key low high)
 
 there-free : (key : Key) (low high : ℕ) (value : Option Data) → IsFree (number_if_there key low high value)
 there-free key low high (Some value) = then-free (number_of key low high value) _ (value-free key low high value) (λ number. ok-free (Some number))
 there-free key low high None = ok-free None
 
-optional-free : (key : Key) (low high : ℕ) (tree : Data) → IsFree (optional_number_in key low high tree)
-unfolding optional_number_in
+optional-free : (key : Key) (low high : ℕ) (tree : Data) → IsFree (optional_number_field key low high tree)
+unfolding optional_number_field
 optional-free key low high tree = there-free key low high (get (key_text key) tree)
 
 version-free : (tree : Data) → IsFree (version_in tree)
@@ -92,8 +92,8 @@ input-free : (tree : Data) → IsFree (input_in tree)
 unfolding input_in
 input-free tree = then-free _ _ (bytes-free _ tree) (λ input. if-free _ input (OutOfRange _) (λ is. cc is))
 
-pub array-free : (key : Key) (tree : Data) → IsFree (array_in key tree)
-unfolding array_in
+pub array-free : (key : Key) (tree : Data) → IsFree (array_field key tree)
+unfolding array_field
 array-free key tree = then-free (field key tree) _ (field-free key tree) (λ value. some-free _ (WrongType key) (λ is. cc is))
 
 provers-free : (tree : Data) → IsFree (provers_in tree)

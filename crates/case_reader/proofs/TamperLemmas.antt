@@ -14,15 +14,15 @@ use Rattle.serde_json.specs.Find.{get, as_number, as_u64, as_object}
 use Rattle.case_reader.specs.declared.fault.CaseFault.TheVariants.{NotJson, NotObject, BadProver, BadHex, OutOfRange}
 use Rattle.case_reader.specs.declared.fault.TaskFault.TheVariants.{Whole, Task}
 use Rattle.case_reader.specs.declared.fault.Key.TheVariants.{Input, Bound, Patience}
-use Rattle.case_reader.specs.Fields.{hex_of, text_in, bytes_in, has_tasks, single_in, format_in, image_in, input_in, number_in, version_in, fan_in, stake_in, provers_in}
-use Rattle.case_reader.specs.Scripts.{text_at, number_at, word_at, flip_in, register_in, early_in, tamper_of_kind, tamper_in, tamper_or_untouched, manner_or_plain, script_in}
+use Rattle.case_reader.specs.Fields.{hex_of, text_field, bytes_field, has_tasks, single_in, format_in, image_in, input_in, number_field, version_in, fan_in, stake_in, provers_in}
+use Rattle.case_reader.specs.Scripts.{text_of_key, number_of_key, word_of_key, flip_in, register_in, early_in, tamper_of_kind, tamper_in, tamper_or_untouched, manner_or_plain, script_in}
 use Rattle.case_reader.specs.Provers.{scripts_in}
 use Rattle.case_reader.specs.Case.{CaseData, case_of, case_at, tree_of}
 use Rattle.case_reader.specs.Tasks.{TasksData, One, Many, tasks_in, cases_in, many_of, one_of, tasks_of, tasks_at}
 use Rattle.hex.specs.Hex.{hex_digit_value, digit_or_error, value_at, pair_value, decode_pairs, ◌>>=◌ as hex_then}
 use Rattle.hex.specs.declared.error.FromHexError.{FromHexError}
 use Rattle.hex.specs.declared.error.FromHexError.TheVariants.{OddLength}
-use Rattle.case_reader.specs.ReadTampers.{IsReadTamper, IsCaseOf, TampersAreRead}
+use Rattle.case_reader.specs.ReadTampers.{IsReadTamper, HoldsCase, TampersAreRead}
 use Rattle.case_reader.specs.ReadInputs.{IsReadInput, InputsAreRead, InputsOfTasksAreRead}
 
 -- OF OPTIONS: what is given, if anything is, has a property
@@ -54,8 +54,8 @@ tested-given P false x has = tt
 abbrev IsBetween : ℕ → ℕ → ℕ → Type 0
 IsBetween low high n = (low ≤ n) × (n ≤ high)
 
-number-between : (key : List ℕ) (low high : ℕ) (tree : Data) → IfGiven (IsBetween low high) (number_at key low high tree)
-unfolding number_at
+number-between : (key : List ℕ) (low high : ℕ) (tree : Data) → IfGiven (IsBetween low high) (number_of_key key low high tree)
+unfolding number_of_key
 number-between key low high tree =
     any-given (IsBetween low high) (get key tree) _ (λ value. any-given (IsBetween low high) (option_and_then as_u64 (as_number value)) _
     (λ number. tested-given (IsBetween low high) (nat_le low number && nat_le number high) number (λ is. let both = and_parts (nat_le low number) (nat_le number high) is in (leb-true low number both.0, leb-true number high both.1))))
@@ -63,22 +63,22 @@ number-between key low high tree =
 flip-read : (tamper : Data) → IfGiven IsReadTamper (flip_in tamper)
 unfolding flip_in
 flip-read tamper =
-    then-given (IsBetween 0 4294967295) IsReadTamper (word_at (codes "step") tamper) _ (number-between (codes "step") 0 4294967295 tamper)
-    (λ at a. then-given (IsBetween 0 4294967295) IsReadTamper (word_at (codes "addr") tamper) _ (number-between (codes "addr") 0 4294967295 tamper)
-    (λ addr b. then-given (IsBetween 0 255) IsReadTamper (number_at (codes "mask") 0 255 tamper) _ (number-between (codes "mask") 0 255 tamper)
+    then-given (IsBetween 0 4294967295) IsReadTamper (word_of_key (codes "step") tamper) _ (number-between (codes "step") 0 4294967295 tamper)
+    (λ at a. then-given (IsBetween 0 4294967295) IsReadTamper (word_of_key (codes "addr") tamper) _ (number-between (codes "addr") 0 4294967295 tamper)
+    (λ addr b. then-given (IsBetween 0 255) IsReadTamper (number_of_key (codes "mask") 0 255 tamper) _ (number-between (codes "mask") 0 255 tamper)
     (λ mask m. (omega (arith, a.1), omega (arith, b.1), omega (arith, m.1)))))
 
 register-read : (tamper : Data) → IfGiven IsReadTamper (register_in tamper)
 unfolding register_in
 register-read tamper =
-    then-given (IsBetween 0 4294967295) IsReadTamper (word_at (codes "step") tamper) _ (number-between (codes "step") 0 4294967295 tamper)
-    (λ at a. then-given (IsBetween 1 31) IsReadTamper (number_at (codes "reg") 1 31 tamper) _ (number-between (codes "reg") 1 31 tamper)
-    (λ reg r. then-given (IsBetween 0 4294967295) IsReadTamper (word_at (codes "value") tamper) _ (number-between (codes "value") 0 4294967295 tamper)
+    then-given (IsBetween 0 4294967295) IsReadTamper (word_of_key (codes "step") tamper) _ (number-between (codes "step") 0 4294967295 tamper)
+    (λ at a. then-given (IsBetween 1 31) IsReadTamper (number_of_key (codes "reg") 1 31 tamper) _ (number-between (codes "reg") 1 31 tamper)
+    (λ reg r. then-given (IsBetween 0 4294967295) IsReadTamper (word_of_key (codes "value") tamper) _ (number-between (codes "value") 0 4294967295 tamper)
     (λ value v. (omega (arith, a.1), r.0, r.1, omega (arith, v.1)))))
 
 early-read : (tamper : Data) → IfGiven IsReadTamper (early_in tamper)
 unfolding early_in
-early-read tamper = map-given (IsBetween 0 4294967295) IsReadTamper (word_at (codes "steps") tamper) Early (number-between (codes "steps") 0 4294967295 tamper) (λ steps s. omega (arith, s.1))
+early-read tamper = map-given (IsBetween 0 4294967295) IsReadTamper (word_of_key (codes "steps") tamper) Early (number-between (codes "steps") 0 4294967295 tamper) (λ steps s. omega (arith, s.1))
 
 kind-read : (tamper : Data) (kind : List ℕ) → IfGiven IsReadTamper (tamper_of_kind tamper kind)
 kind-read tamper kind =
@@ -88,7 +88,7 @@ kind-read tamper kind =
 
 tamper-read : (tamper : Data) → IfGiven IsReadTamper (tamper_in tamper)
 unfolding tamper_in
-tamper-read tamper = any-given IsReadTamper (text_at (codes "kind") tamper) (tamper_of_kind tamper) (kind-read tamper)
+tamper-read tamper = any-given IsReadTamper (text_of_key (codes "kind") tamper) (tamper_of_kind tamper) (kind-read tamper)
 
 untouched-read : (o : Option Data) → IfGiven IsReadTamper (tamper_or_untouched o)
 untouched-read (Some tamper) = tamper-read tamper
@@ -196,9 +196,9 @@ hex-given text = by (length text % 2 == 1)
     by false = given (decode_pairs 0 text) (pairs-read 0 text)
 
 input-read : (tree : Data) → IfRead IsReadInput (input_in tree)
-unfolding input_in bytes_in
+unfolding input_in bytes_field
 input-read tree =
-    then-read AreBytes IsReadInput (bytes_in Input tree) _ (any-read AreBytes (text_in Input tree) _ (λ text. or-read AreBytes (hex_of text) (BadHex Input) (hex-given text)))
+    then-read AreBytes IsReadInput (bytes_field Input tree) _ (any-read AreBytes (text_field Input tree) _ (λ text. or-read AreBytes (hex_of text) (BadHex Input) (hex-given text)))
     (λ input are. by input are (nat_le (length input) 1048576) refl)
   where
     by : (input : List ℕ) → AreBytes input → (b : Bool) → nat_le (length input) 1048576 ≡ b → IfRead IsReadInput (if b then Ok input else Err (OutOfRange Input))
@@ -224,8 +224,8 @@ case-read tree =
     (λ single. any-read HasReadParts (format_in tree) _
     (λ format. any-read HasReadParts (image_in format tree) _
     (λ image. then-read IsReadInput HasReadParts (input_in tree) _ (input-read tree)
-    (λ input small. any-read HasReadParts (number_in Bound 1 4294967295 tree) _
-    (λ bound. any-read HasReadParts (number_in Patience 0 100 tree) _
+    (λ input small. any-read HasReadParts (number_field Bound 1 4294967295 tree) _
+    (λ bound. any-read HasReadParts (number_field Patience 0 100 tree) _
     (λ patience. any-read HasReadParts (version_in tree) _
     (λ version. any-read HasReadParts (fan_in tree) _
     (λ fan. any-read HasReadParts (stake_in tree) _
@@ -263,7 +263,7 @@ bytes-read : (bytes : List ℕ) → IfRead AllHaveReadParts (tasks_at bytes)
 unfolding tasks_at
 bytes-read bytes = any-read AllHaveReadParts (map_fault Whole (ok_or (tree_of bytes) NotJson)) tasks_of tree-read
 
-case-of-bytes : (bytes : List ℕ) (c : CaseData) → IsCaseOf bytes c → HasReadParts c
+case-of-bytes : (bytes : List ℕ) (c : CaseData) → HoldsCase bytes c → HasReadParts c
 case-of-bytes bytes c (inl one) = bytes-read bytes (One c) one
 case-of-bytes bytes c (inr (cs, t, many, there)) = let each : Each HasReadParts cs = bytes-read bytes (Many cs) many in each-there HasReadParts cs t c each there
 

@@ -8,7 +8,7 @@ use Rattle.serde_json.specs.Read.{read}
 use Rattle.serde_json.specs.Find.{as_object}
 use Rattle.rd_base.specs.Results.{◌>>=◌}
 use Rattle.rd_base.specs.declared.script.Script.{Script}
-use Rattle.case_reader.specs.Fields.{single_in, format_in, image_in, input_in, number_in, version_in, fan_in, stake_in, provers_in}
+use Rattle.case_reader.specs.Fields.{single_in, format_in, image_in, input_in, number_field, version_in, fan_in, stake_in, provers_in}
 use Rattle.case_reader.specs.Provers.{scripts_in}
 use Rattle.case_reader.specs.declared.case.Case.{Case}
 use Rattle.case_reader.specs.declared.case.Format.{Format}
@@ -49,8 +49,8 @@ case_of tree = do
   format ← format_in tree
   image ← image_in format tree
   input ← input_in tree
-  bound ← number_in Bound 1 4294967295 tree
-  patience ← number_in Patience 0 100 tree
+  bound ← number_field Bound 1 4294967295 tree
+  patience ← number_field Patience 0 100 tree
   version ← version_in tree
   fan ← fan_in tree
   stake ← stake_in tree

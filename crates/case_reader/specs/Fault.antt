@@ -4,12 +4,12 @@ use Rattle.case_reader.specs.declared.fault.CaseFault.{CaseFault}
 use Rattle.case_reader.specs.declared.fault.CaseFault.TheVariants.{NotJson, NotObject, Missing, WrongType, BadHex, OutOfRange, BadProver, Memory}
 
 -- the number of the rule that is broken, and none if memory ran out
-abbrev pub rule_of : CaseFault → Option ℕ
-rule_of NotJson = Some 1
-rule_of NotObject = Some 2
-rule_of (Missing key) = Some 3
-rule_of (WrongType key) = Some 4
-rule_of (BadHex key) = Some 5
-rule_of (OutOfRange key) = Some 6
-rule_of (BadProver number) = Some 7
-rule_of Memory = None
+abbrev pub case_rule : CaseFault → Option ℕ
+case_rule NotJson = Some 1
+case_rule NotObject = Some 2
+case_rule (Missing key) = Some 3
+case_rule (WrongType key) = Some 4
+case_rule (BadHex key) = Some 5
+case_rule (OutOfRange key) = Some 6
+case_rule (BadProver number) = Some 7
+case_rule Memory = None

@@ -21,8 +21,8 @@ abbrev pub field : Key → Data → Result Data CaseFault
 field key tree = ok_or (get (key_text key) tree) (Missing key)
 
 -- a string
-unfoldable pub text_in : Key → Data → Result (List ℕ) CaseFault
-text_in key tree = do
+unfoldable pub text_field : Key → Data → Result (List ℕ) CaseFault
+text_field key tree = do
   value ← field key tree
   ok_or (as_str value) (WrongType key)
 
@@ -31,9 +31,9 @@ abbrev pub hex_of : List ℕ → Option (List ℕ)
 hex_of text = result_ok (decode_of text)
 
 -- a string of hexadecimal digits
-unfoldable pub bytes_in : Key → Data → Result (List ℕ) CaseFault
-bytes_in key tree = do
-  text ← text_in key tree
+unfoldable pub bytes_field : Key → Data → Result (List ℕ) CaseFault
+bytes_field key tree = do
+  text ← text_field key tree
   ok_or (hex_of text) (BadHex key)
 
 -- a number that reads as an unsigned number of 64 bits, in a range
@@ -43,8 +43,8 @@ number_of key low high value = do
   if nat_le low number && nat_le number high then Ok number else Err (OutOfRange key)
 
 -- the number of a key
-unfoldable pub number_in : Key → ℕ → ℕ → Data → Result ℕ CaseFault
-number_in key low high tree = do
+unfoldable pub number_field : Key → ℕ → ℕ → Data → Result ℕ CaseFault
+number_field key low high tree = do
   value ← field key tree
   number_of key low high value
 
@@ -53,8 +53,8 @@ abbrev pub number_if_there : Key → ℕ → ℕ → Option Data → Result (Opt
 number_if_there key low high (Some value) = number_of key low high value >>= (λ number. Ok (Some number))
 number_if_there key low high None = Ok None
 
-unfoldable pub optional_number_in : Key → ℕ → ℕ → Data → Result (Option ℕ) CaseFault
-optional_number_in key low high tree = number_if_there key low high (get (key_text key) tree)
+unfoldable pub optional_number_field : Key → ℕ → ℕ → Data → Result (Option ℕ) CaseFault
+optional_number_field key low high tree = number_if_there key low high (get (key_text key) tree)
 
 -- the key `tasks` is there, whatever it holds
 abbrev pub has_tasks : Data → Bool
@@ -74,36 +74,36 @@ format_named text =
 
 unfoldable pub format_in : Data → Result Format CaseFault
 format_in tree = do
-  text ← text_in keys.Format tree
+  text ← text_field keys.Format tree
   ok_or (format_named text) (OutOfRange keys.Format)
 
 -- the image's bytes: of assembly the text as it is, and else those of its digits
 unfoldable pub image_in : Format → Data → Result (List ℕ) CaseFault
-image_in Asm tree = text_in keys.Image tree
-image_in Flat tree = bytes_in keys.Image tree
-image_in Elf tree = bytes_in keys.Image tree
+image_in Asm tree = text_field keys.Image tree
+image_in Flat tree = bytes_field keys.Image tree
+image_in Elf tree = bytes_field keys.Image tree
 
 -- the input's bytes, at most 1,048,576
 unfoldable pub input_in : Data → Result (List ℕ) CaseFault
 input_in tree = do
-  input ← bytes_in keys.Input tree
+  input ← bytes_field keys.Input tree
   if nat_le (length input) 1048576 then Ok input else Err (OutOfRange keys.Input)
 
 -- the version of the commitments: 1 to 3, and 1 for a case without the key
 unfoldable pub version_in : Data → Result ℕ CaseFault
 version_in tree = do
-  version ← optional_number_in keys.Version 1 3 tree
+  version ← optional_number_field keys.Version 1 3 tree
   Ok (unwrap_or version 1)
 
 -- into how many parts a round cuts its interval at most: 2 to 16, and 2 for a case without the key
 unfoldable pub fan_in : Data → Result ℕ CaseFault
 fan_in tree = do
-  fan ← optional_number_in keys.Fan 2 16 tree
+  fan ← optional_number_field keys.Fan 2 16 tree
   Ok (unwrap_or fan 2)
 
 -- what each prover puts down: at most 1,000,000,000, for a case with the key
 abbrev pub stake_in : Data → Result (Option ℕ) CaseFault
-stake_in tree = optional_number_in keys.Stake 0 1000000000 tree
+stake_in tree = optional_number_field keys.Stake 0 1000000000 tree
 
 -- the items of an array, as a list
 abbrev pub listed : Items → List Data
@@ -111,13 +111,13 @@ listed no_items = []
 listed (item d ds) = d ∷ listed ds
 
 -- an array
-unfoldable pub array_in : Key → Data → Result (List Data) CaseFault
-array_in key tree = do
+unfoldable pub array_field : Key → Data → Result (List Data) CaseFault
+array_field key tree = do
   value ← field key tree
   ok_or (option_map listed (as_array value)) (WrongType key)
 
 -- the elements of `provers`, 1 to 16 of them
 unfoldable pub provers_in : Data → Result (List Data) CaseFault
 provers_in tree = do
-  provers ← array_in keys.Provers tree
+  provers ← array_field keys.Provers tree
   if nat_le 1 (length provers) && nat_le (length provers) 16 then Ok provers else Err (OutOfRange keys.Provers)

@@ -14,9 +14,9 @@ IsReadTamper (Register at reg value) = (at < 2 ^ 32) × (1 ≤ reg) × (reg ≤ 
 IsReadTamper (Early steps) = steps < 2 ^ 32
 
 -- a case that bytes hold: their only one, or that of a task
-abbrev pub IsCaseOf : List ℕ → CaseData → Type 0
-IsCaseOf bytes c = (tasks_at bytes ≡ Ok (One c)) ⊎ ((cs : List CaseData) × (k : ℕ) × (tasks_at bytes ≡ Ok (Many cs)) × (slice_get cs k ≡ Some c))
+abbrev pub HoldsCase : List ℕ → CaseData → Type 0
+HoldsCase bytes c = (tasks_at bytes ≡ Ok (One c)) ⊎ ((cs : List CaseData) × (k : ℕ) × (tasks_at bytes ≡ Ok (Many cs)) × (slice_get cs k ≡ Some c))
 
 -- each prover of such a case has such a tamper
 abbrev pub TampersAreRead : Type 0
-TampersAreRead = (bytes : List ℕ) (c : CaseData) (k : ℕ) (script : Script) → IsCaseOf bytes c → slice_get c.provers k ≡ Some script → IsReadTamper script.tamper
+TampersAreRead = (bytes : List ℕ) (c : CaseData) (k : ℕ) (script : Script) → HoldsCase bytes c → slice_get c.provers k ≡ Some script → IsReadTamper script.tamper

@@ -22,39 +22,39 @@ abbrev pub ◌>>=◌ : {A B : Type 0} → Option A → (A → Option B) → Opti
 x >>= f = option_and_then f x
 
 -- the text of a key
-abbrev pub text_at : List ℕ → Data → Option (List ℕ)
-text_at key tree = option_and_then as_str (get key tree)
+abbrev pub text_of_key : List ℕ → Data → Option (List ℕ)
+text_of_key key tree = option_and_then as_str (get key tree)
 
 -- the number of a key, one that reads as an unsigned number of 64 bits, in a range
-unfoldable pub number_at : List ℕ → ℕ → ℕ → Data → Option ℕ
-number_at key low high tree = do
+unfoldable pub number_of_key : List ℕ → ℕ → ℕ → Data → Option ℕ
+number_of_key key low high tree = do
   value ← get key tree
   number ← option_and_then as_u64 (as_number value)
   if nat_le low number && nat_le number high then Some number else None
 
 -- the number of a key, below 2^32
-abbrev pub word_at : List ℕ → Data → Option ℕ
-word_at key tree = number_at key 0 4294967295 tree
+abbrev pub word_of_key : List ℕ → Data → Option ℕ
+word_of_key key tree = number_of_key key 0 4294967295 tree
 
 -- the keys of the kind `flip`
 unfoldable pub flip_in : Data → Option Tamper
 flip_in tamper = do
-  step ← word_at (codes "step") tamper
-  addr ← word_at (codes "addr") tamper
-  mask ← number_at (codes "mask") 0 255 tamper
+  step ← word_of_key (codes "step") tamper
+  addr ← word_of_key (codes "addr") tamper
+  mask ← number_of_key (codes "mask") 0 255 tamper
   Some (Flip step addr mask)
 
 -- the keys of the kind `reg`
 unfoldable pub register_in : Data → Option Tamper
 register_in tamper = do
-  step ← word_at (codes "step") tamper
-  reg ← number_at (codes "reg") 1 31 tamper
-  value ← word_at (codes "value") tamper
+  step ← word_of_key (codes "step") tamper
+  reg ← number_of_key (codes "reg") 1 31 tamper
+  value ← word_of_key (codes "value") tamper
   Some (Register step reg value)
 
 -- the keys of the kind `early`
 unfoldable pub early_in : Data → Option Tamper
-early_in tamper = option_map Early (word_at (codes "steps") tamper)
+early_in tamper = option_map Early (word_of_key (codes "steps") tamper)
 
 abbrev pub tamper_of_kind : Data → List ℕ → Option Tamper
 tamper_of_kind tamper kind =
@@ -65,40 +65,40 @@ tamper_of_kind tamper kind =
 
 -- a tamper that is known
 unfoldable pub tamper_in : Data → Option Tamper
-tamper_in tamper = option_and_then (tamper_of_kind tamper) (text_at (codes "kind") tamper)
+tamper_in tamper = option_and_then (tamper_of_kind tamper) (text_of_key (codes "kind") tamper)
 
 -- bytes that a claim's output may be: at most 4,294,967,295
 abbrev pub output_of : List ℕ → Option (List ℕ)
 output_of bytes = if nat_le (length bytes) 4294967295 then Some bytes else None
 
 -- the bytes of the kind `output`
-unfoldable pub output_in : Data → Option (List ℕ)
-output_in manner = do
-  text ← text_at (codes "bytes") manner
+unfoldable pub output_bytes_in : Data → Option (List ℕ)
+output_bytes_in manner = do
+  text ← text_of_key (codes "bytes") manner
   bytes ← hex_of text
   output_of bytes
 
 -- the keys of the kind `forge`
 unfoldable pub forge_in : Data → Option Manner
 forge_in manner = do
-  step ← word_at (codes "step") manner
-  reg ← number_at (codes "reg") 1 31 manner
-  value ← word_at (codes "value") manner
+  step ← word_of_key (codes "step") manner
+  reg ← number_of_key (codes "reg") 1 31 manner
+  value ← word_of_key (codes "value") manner
   Some (Forge step reg value)
 
 -- the answer that is written as the digits of its wire form
-unfoldable pub answer_at : List ℕ → Data → Option Answer
-answer_at key tree = do
-  text ← text_at key tree
+unfoldable pub answer_of_key : List ℕ → Data → Option Answer
+answer_of_key key tree = do
+  text ← text_of_key key tree
   bytes ← hex_of text
   result_ok (answer_in bytes)
 
 -- an answer of a tape, and the number of its question
 unfoldable pub tape_answer_in : Data → Option TapeAnswer
 tape_answer_in element = do
-  dispute ← word_at (codes "dispute") element
-  round ← word_at (codes "round") element
-  answer ← answer_at (codes "answer") element
+  dispute ← word_of_key (codes "dispute") element
+  round ← word_of_key (codes "round") element
+  answer ← answer_of_key (codes "answer") element
   Some (record { qid = record { dispute = dispute; round = round }; answer = answer })
 
 -- the answers of a tape, all of which are known
@@ -123,17 +123,17 @@ tape_in manner = do
 
 abbrev pub manner_of_kind : Data → List ℕ → Option Manner
 manner_of_kind manner kind =
-    if bytes_eq kind (codes "late") then option_map Late (number_at (codes "passes") 0 1000 manner)
-    else if bytes_eq kind (codes "silent") then option_map Silent (number_at (codes "from") 0 64 manner)
-    else if bytes_eq kind (codes "output") then option_map Output (output_in manner)
+    if bytes_eq kind (codes "late") then option_map Late (number_of_key (codes "passes") 0 1000 manner)
+    else if bytes_eq kind (codes "silent") then option_map Silent (number_of_key (codes "from") 0 64 manner)
+    else if bytes_eq kind (codes "output") then option_map Output (output_bytes_in manner)
     else if bytes_eq kind (codes "forge") then forge_in manner
-    else if bytes_eq kind (codes "noise") then option_map Noise (word_at (codes "seed") manner)
+    else if bytes_eq kind (codes "noise") then option_map Noise (word_of_key (codes "seed") manner)
     else if bytes_eq kind (codes "tape") then option_map Tape (tape_in manner)
     else None
 
 -- a manner that is known
 unfoldable pub manner_in : Data → Option Manner
-manner_in manner = option_and_then (manner_of_kind manner) (text_at (codes "kind") manner)
+manner_in manner = option_and_then (manner_of_kind manner) (text_of_key (codes "kind") manner)
 
 -- the tamper of a prover that has the key; one that hasn't is untouched
 abbrev pub tamper_or_untouched : Option Data → Option Tamper

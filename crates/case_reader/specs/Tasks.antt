@@ -4,7 +4,7 @@ use Rattle.std.specs.Prelude.{◌≡◌, ◌≢◌, ◌↔◌, ◌≤◌, ℕ, �
 use Rattle.std.specs.Option.{ok_or}
 use Rattle.serde_json.specs.Data.{Data}
 use Rattle.rd_base.specs.Results.{◌>>=◌, map_fault}
-use Rattle.case_reader.specs.Fields.{has_tasks, array_in}
+use Rattle.case_reader.specs.Fields.{has_tasks, array_field}
 use Rattle.case_reader.specs.Case.{CaseData, data_of, case_of, case_at, tree_of}
 use Rattle.case_reader.specs.declared.case.Tasks.{Tasks as ReadTasks}
 use Rattle.case_reader.specs.declared.case.Tasks.TheVariants as read
@@ -31,7 +31,7 @@ AreFew (read.Many cs) = (1 ≤ length cs.items) × (length cs.items ≤ 8)
 -- the elements of `tasks`, 1 to 8 of them
 unfoldable pub tasks_in : Data → Result (List Data) CaseFault
 tasks_in tree = do
-  tasks ← array_in Tasks tree
+  tasks ← array_field Tasks tree
   if nat_le 1 (length tasks) && nat_le (length tasks) 8 then Ok tasks else Err (OutOfRange Tasks)
 
 -- the cases of tasks, the first of which has this number

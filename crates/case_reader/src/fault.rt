@@ -1,7 +1,7 @@
 //! The keys of a case, and the faults of cases and tasks.
 ghost use Rattle.std.specs.Prelude.{◌≡◌, Some};
 ghost use Rattle.case_reader.specs.Key.{key_text};
-ghost use Rattle.case_reader.specs.Fault.{rule_of};
+ghost use Rattle.case_reader.specs.Fault.{case_rule};
 ghost use Rattle.case_reader.specs.declared.fault.CaseFault.TheVariants.{Memory};
 ghost use Rattle.case_reader.specs.declared.fault.TaskFault.TheVariants as task;
 
@@ -84,7 +84,7 @@ pub enum CaseFault {
 impl CaseFault {
     /// The number of the rule that is broken, from 1 to 7 in the order of the variants, and `None` if memory ran out.
     pub fn rule(self) -> Option<u32>
-        ensures { result ≡ rule_of self }
+        ensures { result ≡ case_rule self }
     {
         match self {
             CaseFault::NotJson => Some(1),

@@ -4,8 +4,8 @@ ghost use Rattle.std.specs.Prelude.{◌≤◌, map, Ok, IfOk, IfSome, ◌≡◌}
 ghost use Rattle.std.specs.Option.{option_map};
 ghost use Rattle.serde_json.specs.View.{view};
 ghost use Rattle.rd_base.specs.Results.{Gives};
-ghost use Rattle.case_reader.specs.Fields.{field, text_in, bytes_in, number_of, number_in, optional_number_in, array_in, hex_of};
-ghost use Rattle.case_reader.specs.Scripts.{text_at, number_at, word_at};
+ghost use Rattle.case_reader.specs.Fields.{field, text_field, bytes_field, number_of, number_field, optional_number_field, array_field, hex_of};
+ghost use Rattle.case_reader.specs.Scripts.{text_of_key, number_of_key, word_of_key};
 
 use crate::fault::{CaseFault, Key};
 use hex::FromHexError;
@@ -21,9 +21,9 @@ fn value_of<'v>(tree: &'v Value, key: Key) -> Result<&'v Value, CaseFault>
 }
 
 /// The text of a key. `Missing` comes if the key isn't there, and `WrongType` if its value is no string.
-#[tactic(auto, unfolding(crate::specs::Fields::text_in))]
+#[tactic(auto, unfolding(crate::specs::Fields::text_field))]
 pub fn text_of<'v>(tree: &'v Value, key: Key) -> Result<&'v str, CaseFault>
-    ensures { Gives CaseFault.Memory (λ text. text.now) result (text_in key (view tree.now)) }
+    ensures { Gives CaseFault.Memory (λ text. text.now) result (text_field key (view tree.now)) }
 {
     let value = value_of(tree, key)?;
     value.as_str().ok_or(CaseFault::WrongType(key))
@@ -42,9 +42,9 @@ pub fn hex_bytes(alloc: Global, text: &str) -> Result<Option<Bytes>, CaseFault>
 
 /// The bytes of a key whose text is hexadecimal digits. `Missing` and `WrongType` come as in `text_of`, `BadHex` if the text isn't such
 /// digits in pairs, and `Memory` if memory ran out.
-#[tactic(auto, unfolding(crate::specs::Fields::bytes_in))]
+#[tactic(auto, unfolding(crate::specs::Fields::bytes_field))]
 pub fn bytes_of(alloc: Global, tree: &Value, key: Key) -> Result<Bytes, CaseFault>
-    ensures { Gives CaseFault.Memory (λ bytes. bytes) result (bytes_in key (view tree.now)) }
+    ensures { Gives CaseFault.Memory (λ bytes. bytes) result (bytes_field key (view tree.now)) }
 {
     let text = text_of(tree, key)?;
     hex_bytes(alloc, text)?.ok_or(CaseFault::BadHex(key))
@@ -52,9 +52,9 @@ pub fn bytes_of(alloc: Global, tree: &Value, key: Key) -> Result<Bytes, CaseFaul
 
 /// The number of a key, from `low` to `high`. `Missing` comes if the key isn't there, `WrongType` if its value isn't an unsigned number of
 /// 64 bits, and `OutOfRange` if the number is outside the range.
-#[tactic(auto, unfolding(crate::specs::Fields::number_in))]
+#[tactic(auto, unfolding(crate::specs::Fields::number_field))]
 pub fn number_of(tree: &Value, key: Key, low: u64, high: u64) -> Result<u64, CaseFault>
-    ensures value { Gives CaseFault.Memory (λ n. n) result (number_in key low high (view tree.now)) }
+    ensures value { Gives CaseFault.Memory (λ n. n) result (number_field key low high (view tree.now)) }
     ensures from { IfOk result (λ n. low ≤ n) }
     ensures to { IfOk result (λ n. n ≤ high) }
 {
@@ -63,14 +63,14 @@ pub fn number_of(tree: &Value, key: Key, low: u64, high: u64) -> Result<u64, Cas
 }
 
 /// The number of a key that may be missing, from `low` to `high`. `WrongType` and `OutOfRange` come as in `number_of`.
-#[tactic(auto, unfolding(crate::specs::Fields::optional_number_in))]
+#[tactic(auto, unfolding(crate::specs::Fields::optional_number_field))]
 pub fn optional_number_of(
     tree: &Value,
     key: Key,
     low: u64,
     high: u64,
 ) -> Result<Option<u64>, CaseFault>
-    ensures value { Gives CaseFault.Memory (λ number. number) result (optional_number_in key low high (view tree.now)) }
+    ensures value { Gives CaseFault.Memory (λ number. number) result (optional_number_field key low high (view tree.now)) }
     ensures from { IfOk result (λ number. IfSome number (λ n. low ≤ n)) }
     ensures to { IfOk result (λ number. IfSome number (λ n. n ≤ high)) }
 {
@@ -96,9 +96,9 @@ fn number_in_range(value: &Value, key: Key, low: u64, high: u64) -> Result<u64, 
 }
 
 /// The items of a key whose value is an array. `Missing` comes if the key isn't there, and `WrongType` if its value is no array.
-#[tactic(auto, unfolding(crate::specs::Fields::array_in))]
+#[tactic(auto, unfolding(crate::specs::Fields::array_field))]
 pub fn array_of(tree: &Value, key: Key) -> Result<&[Value], CaseFault>
-    ensures { Gives CaseFault.Memory (λ items. map view items.now) result (array_in key (view tree.now)) }
+    ensures { Gives CaseFault.Memory (λ items. map view items.now) result (array_field key (view tree.now)) }
 {
     let value = value_of(tree, key)?;
     match value.as_array() {
@@ -109,15 +109,15 @@ pub fn array_of(tree: &Value, key: Key) -> Result<&[Value], CaseFault>
 
 /// The text of a key, if the tree is an object with this key and the value is a string.
 pub fn text_at<'v>(tree: &'v Value, key: &str) -> Option<&'v str>
-    ensures { option_map (λ text. text.now) result ≡ text_at key.now (view tree.now) }
+    ensures { option_map (λ text. text.now) result ≡ text_of_key key.now (view tree.now) }
 {
     tree.get(key).and_then(Value::as_str)
 }
 
 /// The number of a key, if the tree is an object with this key and the value a whole number from `low` to `high`.
-#[tactic(auto, unfolding(crate::specs::Scripts::number_at))]
+#[tactic(auto, unfolding(crate::specs::Scripts::number_of_key))]
 pub fn number_at(tree: &Value, key: &str, low: u64, high: u64) -> Option<u64>
-    ensures value { result ≡ number_at key.now low high (view tree.now) }
+    ensures value { result ≡ number_of_key key.now low high (view tree.now) }
     ensures from { IfSome result (λ n. low ≤ n) }
     ensures to { IfSome result (λ n. n ≤ high) }
 {
@@ -131,7 +131,7 @@ pub fn number_at(tree: &Value, key: &str, low: u64, high: u64) -> Option<u64>
 
 /// The number of a key, below 2^32.
 pub fn word_at(tree: &Value, key: &str) -> Option<u32>
-    ensures { result ≡ word_at key.now (view tree.now) }
+    ensures { result ≡ word_of_key key.now (view tree.now) }
 {
     Some(number_at(tree, key, 0, u64::from(u32::MAX))? as u32)
 }

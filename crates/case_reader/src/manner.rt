@@ -4,7 +4,7 @@ ghost use Rattle.std.specs.Option.{option_map};
 ghost use Rattle.serde_json.specs.View.{view};
 ghost use Rattle.rd_base.specs.Results.{Gives};
 ghost use Rattle.rd_base.specs.declared.script.Manner.TheVariants.{Late, Silent, Output, Noise, Tape};
-ghost use Rattle.case_reader.specs.Scripts.{number_at, word_at, output_in, forge_in, tape_in, manner_in};
+ghost use Rattle.case_reader.specs.Scripts.{number_of_key, word_of_key, output_bytes_in, forge_in, tape_in, manner_in};
 
 use crate::fault::CaseFault;
 use crate::field::{hex_bytes, number_at, text_at, word_at};
@@ -18,7 +18,7 @@ use std::alloc::Global;
 
 /// The key of the kind `late`.
 fn late_of(manner: &Value) -> Option<Manner>
-    ensures { result ≡ option_map Late (number_at (codes "passes") 0 1000 (view manner.now)) }
+    ensures { result ≡ option_map Late (number_of_key (codes "passes") 0 1000 (view manner.now)) }
 {
     let passes = number_at(manner, "passes", 0, u64::from(MAX_PASSES))?;
     Some(Manner::Late(PassCount::new(passes as u32)?))
@@ -26,16 +26,16 @@ fn late_of(manner: &Value) -> Option<Manner>
 
 /// The key of the kind `silent`.
 fn silent_of(manner: &Value) -> Option<Manner>
-    ensures { result ≡ option_map Silent (number_at (codes "from") 0 64 (view manner.now)) }
+    ensures { result ≡ option_map Silent (number_of_key (codes "from") 0 64 (view manner.now)) }
 {
     let from = number_at(manner, "from", 0, u64::from(MAX_FIRST_SILENT_ROUND))?;
     Some(Manner::Silent(FirstSilentRound::new(from as u32)?))
 }
 
 /// The key of the kind `output`.
-#[tactic(auto, unfolding(crate::specs::Scripts::output_in))]
+#[tactic(auto, unfolding(crate::specs::Scripts::output_bytes_in))]
 fn output_of(alloc: Global, manner: &Value) -> Result<Option<Manner>, CaseFault>
-    ensures { Gives CaseFault.Memory (λ known. known) result (Ok (option_map Output (output_in (view manner.now)))) }
+    ensures { Gives CaseFault.Memory (λ known. known) result (Ok (option_map Output (output_bytes_in (view manner.now)))) }
 {
     let Some(text) = text_at(manner, "bytes") else {
         return Ok(None);
@@ -60,7 +60,7 @@ fn forge_of(manner: &Value) -> Option<Manner>
 
 /// The key of the kind `noise`.
 fn noise_of(manner: &Value) -> Option<Manner>
-    ensures { result ≡ option_map Noise (word_at (codes "seed") (view manner.now)) }
+    ensures { result ≡ option_map Noise (word_of_key (codes "seed") (view manner.now)) }
 {
     Some(Manner::Noise {
         seed: word_at(manner, "seed")?,

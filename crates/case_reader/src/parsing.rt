@@ -3,7 +3,7 @@ ghost use Rattle.std.specs.Prelude.{◌≡◌, ◌≤◌, length, map, IfOk};
 ghost use Rattle.std.specs.Option.{ok_or};
 ghost use Rattle.serde_json.specs.View.{view};
 ghost use Rattle.rd_base.specs.Results.{Gives};
-ghost use Rattle.case_reader.specs.Fields.{has_tasks, text_in, format_in, image_in, input_in, version_in, fan_in, provers_in};
+ghost use Rattle.case_reader.specs.Fields.{has_tasks, text_field, format_in, image_in, input_in, version_in, fan_in, provers_in};
 ghost use Rattle.case_reader.specs.Case.{case_of, case_at, tree_of, data_of};
 ghost use Rattle.case_reader.specs.declared.fault.CaseFault.TheVariants.{NotJson};
 
@@ -32,7 +32,7 @@ fn format_of(tree: &Value) -> Result<Format, CaseFault>
 
 /// The bytes of a key's text.
 fn text_bytes_of(alloc: Global, tree: &Value, key: Key) -> Result<Bytes, CaseFault>
-    ensures { Gives CaseFault.Memory (λ bytes. bytes) result (text_in key (view tree.now)) }
+    ensures { Gives CaseFault.Memory (λ bytes. bytes) result (text_field key (view tree.now)) }
 {
     let text = text_of(tree, key)?;
     Ok(Bytes::new(Vec::from_slice(alloc, text.as_bytes())?))

@@ -5,7 +5,7 @@ ghost use Rattle.serde_json.specs.Find.{get, as_array};
 ghost use Rattle.serde_json.specs.View.{view};
 ghost use Rattle.rd_base.specs.Results.{Gives};
 ghost use Rattle.case_reader.specs.Fields.{listed};
-ghost use Rattle.case_reader.specs.Scripts.{answer_at, tape_answer_in, tape_answers_in, tape_in};
+ghost use Rattle.case_reader.specs.Scripts.{answer_of_key, tape_answer_in, tape_answers_in, tape_in};
 
 use crate::fault::CaseFault;
 use crate::field::{hex_bytes, text_at, word_at};
@@ -15,9 +15,9 @@ use serde_json::Value;
 use std::alloc::Global;
 
 /// The answer of a key whose text is the digits of a wire form.
-#[tactic(auto, unfolding(crate::specs::Scripts::answer_at))]
+#[tactic(auto, unfolding(crate::specs::Scripts::answer_of_key))]
 fn answer_at(alloc: Global, element: &Value, key: &str) -> Result<Option<Answer>, CaseFault>
-    ensures { Gives CaseFault.Memory (λ known. known) result (Ok (answer_at key.now (view element.now))) }
+    ensures { Gives CaseFault.Memory (λ known. known) result (Ok (answer_of_key key.now (view element.now))) }
 {
     let Some(text) = text_at(element, key) else {
         return Ok(None);

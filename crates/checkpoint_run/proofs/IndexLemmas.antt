@@ -6,11 +6,11 @@ use Rattle.std.specs.Map.{lookup}
 use Rattle.std.specs.BTreeMap.{is_at}
 use Rattle.std.specs.declared.vec.Vec.{Vec}
 use Rattle.std.specs.declared.alloc.Global.{Global}
-use Rattle.mem_plain.specs.Contents.{Contents, byte_at}
+use Rattle.mem_plain.specs.Contents.{Contents, byte_at, has_page}
 use Rattle.mem_plain.specs.Pages.{byte_of}
 use Rattle.std.proofs.lemmas.List.{length-append, reverse-append}
 use Rattle.std.proofs.lemmas.Option.{none-some, same_Some}
-use Rattle.checkpoint_run.specs.Versions.{first_of, pages_of, is_among, IsShownBut}
+use Rattle.checkpoint_run.specs.Versions.{first_of, pages_of, IsShownBut}
 use Rattle.checkpoint_run.specs.Places.{items_of, places_at, ArePlaces, IsKeyed, IsIndex, HasNone, IsLastBelow, IsPut}
 use Rattle.checkpoint_run.proofs.VersionLemmas.{is_at-eqb, among_first, among_other}
 use Rattle.checkpoint_run.specs.declared.version.Version.{Version}
@@ -159,10 +159,10 @@ module _ (old mid new : List (ℕ × Vec ℕ Global)) (named more pages : List �
   found_elsewhere q other = updates q ∙ ap (λ b. cond b (Some v) (lookup (is_at (nat_cmp q)) mid)) (is_at-eqb page q ∙ ne_eqb q page other)
 
   pub index_more : slice_index pages place ≡ page → IsIndex old named pages place → v.items ≡ places_at old page ++ place ∷ [] → ((p : ℕ) → p ≢ page → places_at mid p ≡ places_at old p)
-      → IsKeyed mid more → is_among more page ≡ true → IsIndex new more pages (place + 1)
+      → IsKeyed mid more → has_page more page ≡ true → IsIndex new more pages (place + 1)
   index_more is index items others keyed named_here =
       let P : ℕ → List ℕ → Type 0 = λ q places. ArePlaces pages (place + 1) q places in
-      let K : ℕ → Option (Vec ℕ Global) → Type 0 = λ q o. IfSome o (λ x. is_among more q ≡ true) in
+      let K : ℕ → Option (Vec ℕ Global) → Type 0 = λ q o. IfSome o (λ x. has_page more q ≡ true) in
       record {
         each = λ q. ⊎_elim
             (λ (same : q ≡ page). subst (P q) (sym (ap items_of (found_here q same) ∙ items))
@@ -170,7 +170,7 @@ module _ (old mid new : List (ℕ × Vec ℕ Global)) (named more pages : List �
             (λ other. subst (P q) (sym (ap items_of (found_elsewhere q other) ∙ others q other)) (place_other pages place q (places_at old q) (λ at. other (sym at ∙ is)) (index.each q)))
             (cases_eq q page);
         keyed = λ q. ⊎_elim
-            (λ (same : q ≡ page). subst (K q) (sym (found_here q same)) (ap (is_among more) same ∙ named_here))
+            (λ (same : q ≡ page). subst (K q) (sym (found_here q same)) (ap (has_page more) same ∙ named_here))
             (λ other. subst (K q) (sym (found_elsewhere q other)) (keyed q))
             (cases_eq q page);
       }
@@ -183,17 +183,17 @@ put_nothing taken m none = record {
 }
 
 -- pages of which one more is put into a memory
-among_end_here : (put : List ℕ) (page : ℕ) → is_among (put ++ page ∷ []) page ≡ true
+among_end_here : (put : List ℕ) (page : ℕ) → has_page (put ++ page ∷ []) page ≡ true
 among_end_here [] page = among_first page []
-among_end_here (x ∷ put) page = or_right (is_at (nat_cmp page) x) (is_among (put ++ page ∷ []) page) (among_end_here put page)
+among_end_here (x ∷ put) page = or_right (is_at (nat_cmp page) x) (has_page (put ++ page ∷ []) page) (among_end_here put page)
 
-among_end_other : (put : List ℕ) (page q : ℕ) → q ≢ page → is_among (put ++ page ∷ []) q ≡ is_among put q
+among_end_other : (put : List ℕ) (page q : ℕ) → q ≢ page → has_page (put ++ page ∷ []) q ≡ has_page put q
 among_end_other [] page q other = among_other page [] q other refl
 among_end_other (x ∷ put) page q other = ap (λ b. is_at (nat_cmp q) x || b) (among_end_other put page q other)
 
 module _ (taken : List Version) (put : List ℕ) (page : ℕ) where
-  other_page : (q : ℕ) → is_among (put ++ page ∷ []) q ≡ false → q ≢ page
-  other_page q none same = true≢false (sym (among_end_here put page) ∙ (ap (is_among (put ++ page ∷ [])) (sym same) ∙ none))
+  other_page : (q : ℕ) → has_page (put ++ page ∷ []) q ≡ false → q ≢ page
+  other_page q none same = true≢false (sym (among_end_here put page) ∙ (ap (has_page (put ++ page ∷ [])) (sym same) ∙ none))
 
   pub put_none : (m : Contents) → first_of (reverse taken) page ≡ None → IsPut taken put m → IsPut taken (put ++ page ∷ []) m
   put_none m none is = record {
@@ -201,7 +201,7 @@ module _ (taken : List Version) (put : List ℕ) (page : ℕ) where
         (λ (same : a / 4096 ≡ page). ⊎_elim
         (λ was. is.shown a below was)
         (λ absent. is.empty a below absent ∙ sym (ap (λ o. byte_of o (a % 4096)) (ap (first_of (reverse taken)) same ∙ none)))
-        (cases_Bool (is_among put (a / 4096))))
+        (cases_Bool (has_page put (a / 4096))))
         (λ other. is.shown a below (sym (among_end_other put page (a / 4096) other) ∙ there))
         (cases_eq (a / 4096) page);
     empty = λ a below absent. is.empty a below (sym (among_end_other put page (a / 4096) (other_page (a / 4096) absent)) ∙ absent);
@@ -234,7 +234,7 @@ all_put vs count entries named m within index is a below none = ⊎_elim
     (λ there. is.shown a below there)
     (λ absent.
     let page = a / 4096 in
-    let nowhere = no_key (lookup (is_at (nat_cmp page)) entries) (is_among named page) absent (index.keyed page) in
+    let nowhere = no_key (lookup (is_at (nat_cmp page)) entries) (has_page named page) absent (index.keyed page) in
     let nothing : HasNone (pages_of vs) page count = λ j low same. let found = (index.each page).full j (omega arith) same in let len = ap length nowhere in let place = found.1 in absurd (omega arith) in
     is.empty a below absent ∙ sym (ap (λ o. byte_of o (a % 4096)) (first_none vs page count within nothing)))
-    (cases_Bool (is_among named (a / 4096)))
+    (cases_Bool (has_page named (a / 4096)))

@@ -5,14 +5,14 @@ use Rattle.std.proofs.lemmas.List.{take-append-le, take_all}
 use Rattle.std.proofs.Math.Numerals.{add-one}
 use Rattle.std.proofs.lemmas.Option.{slice_get_past}
 use Rattle.digest_core.specs.Chain.{chain_of}
-use Rattle.mem_plain.specs.Contents.{Contents, byte_at}
+use Rattle.mem_plain.specs.Contents.{Contents, byte_at, has_page}
 use Rattle.rd_base.specs.declared.status.Ctl.{Ctl}
 use Rattle.rd_base.specs.declared.tamper.Tamper.{Tamper}
 use Rattle.rv_step.specs.State.{State}
 use Rattle.checkpoint_run.specs.TamperedRun.{run_from}
-use Rattle.checkpoint_run.specs.Versions.{is_among, AreBelow, IsShownBut}
+use Rattle.checkpoint_run.specs.Versions.{AreBelow, IsShownBut}
 use Rattle.checkpoint_run.specs.NamedPages.{IsNamed, ArePages}
-use Rattle.checkpoint_run.specs.WrittenPages.{stored_by, flipped_by, written_by, how_many, writes}
+use Rattle.checkpoint_run.specs.WrittenPages.{stored_by, flipped_by, written_by, count_named, writes}
 use Rattle.checkpoint_run.specs.Keeping.{StandsFor, AllStand, IsAdded, at_first, state_by}
 use Rattle.rv_step.specs.declared.machine.Machine.{Machine}
 use Rattle.checkpoint_run.specs.UnderWay.{AllChained, IsKeptTo}
@@ -85,8 +85,8 @@ module _ (pages : List (Option ℕ)) (two : length pages ≡ 2) (old between new
       second (λ page named. below page (named_either pages two page (inr named))) (first (λ page named. below page (named_either pages two page (inl named))) before)
 
   pub noted_shown : (versions : List Version) (m n : Contents)
-      → ((p : ℕ) → is_among between p ≡ false → IsNamed p (get_or pages 0 None ∷ []) → ⊥) → ((p : ℕ) → is_among between p ≡ false → is_among old p ≡ false)
-      → ((p : ℕ) → is_among new p ≡ false → IsNamed p (get_or pages 1 None ∷ []) → ⊥) → ((p : ℕ) → is_among new p ≡ false → is_among between p ≡ false)
+      → ((p : ℕ) → has_page between p ≡ false → IsNamed p (get_or pages 0 None ∷ []) → ⊥) → ((p : ℕ) → has_page between p ≡ false → has_page old p ≡ false)
+      → ((p : ℕ) → has_page new p ≡ false → IsNamed p (get_or pages 1 None ∷ []) → ⊥) → ((p : ℕ) → has_page new p ≡ false → has_page between p ≡ false)
       → ((q : ℕ) → ¬ IsNamed (q / 4096) pages → byte_at n q ≡ byte_at m q) → IsShownBut versions old m → IsShownBut versions new n
   noted_shown versions m n named-1 kept-1 named-2 kept-2 elsewhere shown a below none =
       let none-1 = kept-2 (a / 4096) none in
@@ -94,21 +94,21 @@ module _ (pages : List (Option ℕ)) (two : length pages ≡ 2) (old between new
       ∙ shown a below (kept-1 (a / 4096) none-1)
 
 -- the pages that are noted after a step are no more than those that were written
-how_many_two : (a b : Option ℕ) → how_many (a ∷ b ∷ []) ≡ how_many (a ∷ []) + how_many (b ∷ [])
+how_many_two : (a b : Option ℕ) → count_named (a ∷ b ∷ []) ≡ count_named (a ∷ []) + count_named (b ∷ [])
 how_many_two None b = omega arith
 how_many_two (Some page) b = omega arith
 
 pub noted_few : (tamper : Tamper) (first : State) (at : ℕ) (pages : List (Option ℕ)) (kept old between new start : ℕ)
     → pages ≡ written_by tamper at (run_from tamper first at)
-    → between ≤ old + how_many (get_or pages 0 None ∷ []) → new ≤ between + how_many (get_or pages 1 None ∷ [])
+    → between ≤ old + count_named (get_or pages 0 None ∷ []) → new ≤ between + count_named (get_or pages 1 None ∷ [])
     → kept + old ≤ start + writes tamper first at → kept + new ≤ start + writes tamper first (at + 1)
 noted_few tamper first at pages kept old between new start written few-1 few-2 before =
     let a = stored_by tamper at (run_from tamper first at) in
     let b = flipped_by tamper (at + 1) in
-    let one : how_many (get_or pages 0 None ∷ []) ≡ how_many (a ∷ []) = ap (λ ps. how_many (get_or ps 0 None ∷ [])) written in
-    let other : how_many (get_or pages 1 None ∷ []) ≡ how_many (b ∷ []) = ap (λ ps. how_many (get_or ps 1 None ∷ [])) written in
+    let one : count_named (get_or pages 0 None ∷ []) ≡ count_named (a ∷ []) = ap (λ ps. count_named (get_or ps 0 None ∷ [])) written in
+    let other : count_named (get_or pages 1 None ∷ []) ≡ count_named (b ∷ []) = ap (λ ps. count_named (get_or ps 1 None ∷ [])) written in
     let two = how_many_two a b in
-    let more : writes tamper first (at + 1) ≡ writes tamper first at + how_many (a ∷ b ∷ []) = ap (writes tamper first) (add-one at) in
+    let more : writes tamper first (at + 1) ≡ writes tamper first at + count_named (a ∷ b ∷ []) = ap (writes tamper first) (add-one at) in
     omega arith
 
 -- a checkpoint more leaves the first one

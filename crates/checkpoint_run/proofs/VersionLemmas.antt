@@ -5,55 +5,55 @@ use Rattle.std.proofs.lemmas.Bool.Decides.{nat_tests}
 use Rattle.std.proofs.lemmas.List.{reverse-append, append_assoc, map-append, length-map, length-append}
 use Rattle.std.specs.Ordering.{nat_cmp}
 use Rattle.std.specs.BTreeMap.{is_at}
-use Rattle.mem_plain.specs.Contents.{Contents, byte_at, IsUsed, contents_with}
+use Rattle.mem_plain.specs.Contents.{Contents, byte_at, IsUsed, contents_with, has_page}
 use Rattle.mem_plain.specs.Memory.{IsMemory}
 use Rattle.mem_plain.specs.Pages.{byte_of}
-use Rattle.checkpoint_run.specs.Versions.{first_of, byte_by, pictured, pages_of, is_among, AreBelow, IsShownBut}
+use Rattle.checkpoint_run.specs.Versions.{first_of, byte_by, pictured, pages_of, AreBelow, IsShownBut}
 use Rattle.checkpoint_run.specs.declared.version.Version.{Version}
 
 pub is_at-eqb : (key x : ℕ) → is_at (nat_cmp key) x ≡ eqb x key
 is_at-eqb key x = grind (arith, nat_tests)
 
 -- the first of some pages is among them, and so is one of the others
-pub among_first : (page : ℕ) (rest : List ℕ) → is_among (page ∷ rest) page ≡ true
-among_first page rest = ap (λ b. b || is_among rest page) (is_at-eqb page page ∙ eq-eqb page page refl)
+pub among_first : (page : ℕ) (rest : List ℕ) → has_page (page ∷ rest) page ≡ true
+among_first page rest = ap (λ b. b || has_page rest page) (is_at-eqb page page ∙ eq-eqb page page refl)
 
-pub among_rest : (page : ℕ) (rest : List ℕ) (p : ℕ) → is_among rest p ≡ true → is_among (page ∷ rest) p ≡ true
-among_rest page rest p is = or_right (is_at (nat_cmp p) page) (is_among rest p) is
+pub among_rest : (page : ℕ) (rest : List ℕ) (p : ℕ) → has_page rest p ≡ true → has_page (page ∷ rest) p ≡ true
+among_rest page rest p is = or_right (is_at (nat_cmp p) page) (has_page rest p) is
 
-pub among_other : (page : ℕ) (rest : List ℕ) (p : ℕ) → p ≢ page → is_among rest p ≡ false → is_among (page ∷ rest) p ≡ false
-among_other page rest p apart none = ap (λ b. b || is_among rest p) (is_at-eqb p page ∙ ne_eqb page p (λ same. apart (sym same))) ∙ none
+pub among_other : (page : ℕ) (rest : List ℕ) (p : ℕ) → p ≢ page → has_page rest p ≡ false → has_page (page ∷ rest) p ≡ false
+among_other page rest p apart none = ap (λ b. b || has_page rest p) (is_at-eqb p page ∙ ne_eqb page p (λ same. apart (sym same))) ∙ none
 
 -- a page is added to some
 abbrev pub IsAddedTo : ℕ → List ℕ → List ℕ → Type 0
-IsAddedTo page old new = (q : ℕ) → is_among new q ≡ cond (is_at (nat_cmp page) q) true (is_among old q)
+IsAddedTo page old new = (q : ℕ) → has_page new q ≡ cond (is_at (nat_cmp page) q) true (has_page old q)
 
 module _ (page : ℕ) (old new : List ℕ) (adds : IsAddedTo page old new) where
-  pub added_here : is_among new page ≡ true
-  added_here = adds page ∙ ap (λ b. cond b true (is_among old page)) (is_at-eqb page page ∙ eq-eqb page page refl)
+  pub added_here : has_page new page ≡ true
+  added_here = adds page ∙ ap (λ b. cond b true (has_page old page)) (is_at-eqb page page ∙ eq-eqb page page refl)
 
-  pub added_elsewhere : (q : ℕ) → q ≢ page → is_among new q ≡ is_among old q
-  added_elsewhere q other = adds q ∙ ap (λ b. cond b true (is_among old q)) (is_at-eqb page q ∙ ne_eqb q page other)
+  pub added_elsewhere : (q : ℕ) → q ≢ page → has_page new q ≡ has_page old q
+  added_elsewhere q other = adds q ∙ ap (λ b. cond b true (has_page old q)) (is_at-eqb page q ∙ ne_eqb q page other)
 
-  pub added_kept : (q : ℕ) → is_among old q ≡ true → is_among new q ≡ true
-  added_kept q there = ⊎_elim (λ same. ap (is_among new) same ∙ added_here) (λ other. added_elsewhere q other ∙ there) (cases_eq q page)
+  pub added_kept : (q : ℕ) → has_page old q ≡ true → has_page new q ≡ true
+  added_kept q there = ⊎_elim (λ same. ap (has_page new) same ∙ added_here) (λ other. added_elsewhere q other ∙ there) (cases_eq q page)
 
   pub added_below : page < 2 ^ 20 → AreBelow old → AreBelow new
   added_below small below q there = ⊎_elim (λ same. subst (λ n. n < 2 ^ 20) (sym same) small) (λ other. below q (sym (added_elsewhere q other) ∙ there)) (cases_eq q page)
 
   -- the used pages below a number, and the next one
-  pub used_more : (m : Contents) (from : ℕ) → ((p : ℕ) → p < from → IsUsed m p → is_among old p ≡ true) → ((p : ℕ) → from ≤ p → p < page → ¬ IsUsed m p)
-      → (p : ℕ) → p < page + 1 → IsUsed m p → is_among new p ≡ true
+  pub used_more : (m : Contents) (from : ℕ) → ((p : ℕ) → p < from → IsUsed m p → has_page old p ≡ true) → ((p : ℕ) → from ≤ p → p < page → ¬ IsUsed m p)
+      → (p : ℕ) → p < page + 1 → IsUsed m p → has_page new p ≡ true
   used_more m from done none p low used = ⊎_elim
       (λ before. added_kept p (done p before used))
       (λ after. ⊎_elim
       (λ between. absurd (none p after between used))
-      (λ past. ap (is_among new) (omega arith) ∙ added_here)
+      (λ past. ap (has_page new) (omega arith) ∙ added_here)
       (cases_lt p page))
       (cases_lt p from)
 
   -- pages that are used, and one more
-  pub used_only : (m : Contents) → ((p : ℕ) → is_among old p ≡ true → IsUsed m p) → IsUsed m page → (p : ℕ) → is_among new p ≡ true → IsUsed m p
+  pub used_only : (m : Contents) → ((p : ℕ) → has_page old p ≡ true → IsUsed m p) → IsUsed m page → (p : ℕ) → has_page new p ≡ true → IsUsed m p
   used_only m only here p there = ⊎_elim (λ same. subst (IsUsed m) (sym same) here) (λ other. only p (sym (added_elsewhere p other) ∙ there)) (cases_eq p page)
 
 -- the bytes of a version that is added
@@ -111,7 +111,7 @@ unfolding pictured
 pictured_memory versions m alike memory shown = alike (byte_by versions) (byte_at m) (λ q below. sym (shown q below refl)) ∙ memory.whole
 
 -- a page that is not among the used ones has no byte other than 0
-pub shown_unused : (pages : List ℕ) (m : Contents) → ((p : ℕ) → IsUsed m p → is_among pages p ≡ true) → IsShownBut [] pages m
+pub shown_unused : (pages : List ℕ) (m : Contents) → ((p : ℕ) → IsUsed m p → has_page pages p ≡ true) → IsShownBut [] pages m
 shown_unused pages m used a below none = ⊎_elim
     (λ zeros. zeros)
     (λ some. absurd (true≢false (sym (used (a / 4096) (a, refl, some)) ∙ none)))

@@ -5,8 +5,8 @@ use Rattle.std.specs.Map.{lookup}
 use Rattle.std.specs.BTreeMap.{is_at}
 use Rattle.std.specs.declared.vec.Vec.{Vec}
 use Rattle.std.specs.declared.alloc.Global.{Global}
-use Rattle.mem_plain.specs.Contents.{Contents, byte_at}
-use Rattle.checkpoint_run.specs.Versions.{is_among, byte_by}
+use Rattle.mem_plain.specs.Contents.{Contents, byte_at, has_page}
+use Rattle.checkpoint_run.specs.Versions.{byte_by}
 use Rattle.checkpoint_run.specs.declared.version.Version.{Version}
 
 -- the places that are kept, if there are some
@@ -30,7 +30,7 @@ pub record ArePlaces (pages : List ℕ) (n page : ℕ) (places : List ℕ) : Typ
 
 -- each page that has places is named
 abbrev pub IsKeyed : List (ℕ × Vec ℕ Global) → List ℕ → Type 0
-IsKeyed entries named = (page : ℕ) → IfSome (lookup (is_at (nat_cmp page)) entries) (λ places. is_among named page ≡ true)
+IsKeyed entries named = (page : ℕ) → IfSome (lookup (is_at (nat_cmp page)) entries) (λ places. has_page named page ≡ true)
 
 -- for each page the places below a number at which it occurs in a list of pages
 pub record IsIndex (entries : List (ℕ × Vec ℕ Global)) (named pages : List ℕ) (n : ℕ) : Type 0 where
@@ -49,5 +49,5 @@ pub record IsLastBelow (pages : List ℕ) (page count k : ℕ) : Type 0 where
 
 -- some pages of what versions stand for were put into a memory, and no others
 pub record IsPut (versions : List Version) (put : List ℕ) (m : Contents) : Type 0 where
-  pub shown : (a : ℕ) → a < 2 ^ 32 → is_among put (a / 4096) ≡ true → byte_at m a ≡ byte_by versions a
-  pub empty : (a : ℕ) → a < 2 ^ 32 → is_among put (a / 4096) ≡ false → byte_at m a ≡ 0
+  pub shown : (a : ℕ) → a < 2 ^ 32 → has_page put (a / 4096) ≡ true → byte_at m a ≡ byte_by versions a
+  pub empty : (a : ℕ) → a < 2 ^ 32 → has_page put (a / 4096) ≡ false → byte_at m a ≡ 0

@@ -1,9 +1,6 @@
 -- Derived, a part of the view of `Run`: the memory that versions of pages stand for, of which the last one of a page counts.
 use Rattle.std.specs.Prelude.{◌≡◌, ℕ, ◌/◌, ◌%◌, ◌^◌, ◌<◌, ◌==◌, Bool, true, false, List, [], ◌∷◌, map, reverse, Option, Some, None, if◌then◌else◌}
-use Rattle.std.specs.List.{list_any}
-use Rattle.std.specs.Ordering.{nat_cmp}
-use Rattle.std.specs.BTreeMap.{is_at}
-use Rattle.mem_plain.specs.Contents.{Contents, contents_with, byte_at}
+use Rattle.mem_plain.specs.Contents.{Contents, contents_with, byte_at, has_page}
 use Rattle.mem_plain.specs.Pages.{byte_of}
 use Rattle.mem_plain.specs.declared.page.Page.{Page}
 use Rattle.checkpoint_run.specs.declared.version.Version.{Version}
@@ -25,14 +22,10 @@ pictured versions = contents_with (byte_by versions)
 abbrev pub pages_of : List Version → List ℕ
 pages_of versions = map (λ v. v.page) versions
 
--- a page is among some
-abbrev pub is_among : List ℕ → ℕ → Bool
-is_among pages page = list_any (is_at (nat_cmp page)) pages
-
 -- each of some pages is one of the 2^20
 abbrev pub AreBelow : List ℕ → Type 0
-AreBelow pages = (page : ℕ) → is_among pages page ≡ true → page < 2 ^ 20
+AreBelow pages = (page : ℕ) → has_page pages page ≡ true → page < 2 ^ 20
 
 -- the versions stand for a memory, but for some pages
 abbrev pub IsShownBut : List Version → List ℕ → Contents → Type 0
-IsShownBut versions changed m = (a : ℕ) → a < 2 ^ 32 → is_among changed (a / 4096) ≡ false → byte_at m a ≡ byte_by versions a
+IsShownBut versions changed m = (a : ℕ) → a < 2 ^ 32 → has_page changed (a / 4096) ≡ false → byte_at m a ≡ byte_by versions a

@@ -21,12 +21,12 @@ abbrev pub written_by : Tamper → ℕ → State → List (Option ℕ)
 written_by tamper i s = stored_by tamper i s ∷ flipped_by tamper (i + 1) ∷ []
 
 -- at how many places a page is named
-abbrev pub how_many : List (Option ℕ) → ℕ
-how_many [] = 0
-how_many (None ∷ rest) = how_many rest
-how_many (Some page ∷ rest) = suc (how_many rest)
+abbrev pub count_named : List (Option ℕ) → ℕ
+count_named [] = 0
+count_named (None ∷ rest) = count_named rest
+count_named (Some page ∷ rest) = suc (count_named rest)
 
 -- how many pages the first n steps of a run write; a page counts each time
 abbrev pub writes : Tamper → State → ℕ → ℕ
 writes tamper first zero = 0
-writes tamper first (suc n) = writes tamper first n + how_many (written_by tamper n (run_from tamper first n))
+writes tamper first (suc n) = writes tamper first n + count_named (written_by tamper n (run_from tamper first n))

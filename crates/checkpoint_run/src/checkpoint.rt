@@ -1,7 +1,7 @@
 //! Checkpoints of a run, and the versions of its pages: of all versions of a page that come before a checkpoint, the last one is the page.
 ghost use Rattle.std.specs.Prelude.{◌≡◌, ◌≢◌, ℕ, ◌+◌, ◌*◌, ◌<◌, ◌≤◌, ◌^◌, ◌++◌, ◌∷◌, [], List, length, take, slice_index, true, IfOk, OnOk, IfSome, IfNone};
-ghost use Rattle.mem_plain.specs.Contents.{IsUsed};
-ghost use Rattle.checkpoint_run.specs.Versions.{pictured, pages_of, is_among, AreBelow, IsShownBut};
+ghost use Rattle.mem_plain.specs.Contents.{IsUsed, has_page};
+ghost use Rattle.checkpoint_run.specs.Versions.{pictured, pages_of, AreBelow, IsShownBut};
 ghost use Rattle.checkpoint_run.specs.Places.{IsIndex, IsPut, ArePlaces, IsKeyed, IsLastBelow, HasNone, Ascend, places_at};
 ghost use Rattle.checkpoint_run.specs.declared.version.Version.{Version};
 ghost use Rattle.checkpoint_run.specs.Keeping.{IsAdded, found_at};
@@ -25,7 +25,7 @@ fn take_places(alloc: Global, index: &mut PagePlaces, page: u32) -> Result<Vec<u
     ensures taken { IfOk result (λ v. v.items ≡ places_at index.old.places.entries page) }
     ensures others { (p : ℕ) → p ≢ page → places_at index.new.places.entries p ≡ places_at index.old.places.entries p }
     ensures keyed { OnOk result (IsKeyed index.old.places.entries index.old.pages.items → IsKeyed index.new.places.entries index.new.pages.items) }
-    ensures here { OnOk result (IsKeyed index.old.places.entries index.old.pages.items → is_among index.new.pages.items page ≡ true) }
+    ensures here { OnOk result (IsKeyed index.old.places.entries index.old.pages.items → has_page index.new.pages.items page ≡ true) }
 {
     match index.places.remove(&page) {
         Some(places) => Ok(places),
@@ -119,7 +119,7 @@ pub struct Checkpoint {
 pub fn used_pages(alloc: Global, mem: &PlainMem) -> Result<BTreeSet<u32>, Memory>
     ensures pages { IfOk result (λ s. AreBelow s.keys) }
     ensures shown { IfOk result (λ s. IsShownBut [] s.keys mem.now) }
-    ensures only { IfOk result (λ s. (p : ℕ) → is_among s.keys p ≡ true → IsUsed mem.now p) }
+    ensures only { IfOk result (λ s. (p : ℕ) → has_page s.keys p ≡ true → IsUsed mem.now p) }
 {
     let mut pages = BTreeSet::new(alloc);
     let mut from = 0;

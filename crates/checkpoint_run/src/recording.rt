@@ -1,11 +1,12 @@
 //! A run that is being recorded.
 ghost use Rattle.std.specs.Prelude.{◌≡◌, ◌⊎◌, ℕ, ◌+◌, ◌*◌, ◌<◌, ◌≤◌, ◌^◌, ◌∷◌, [], ◌++◌, List, length, vec_len, true, false, Some, IfOk, OnOk};
+ghost use Rattle.mem_plain.specs.Contents.{has_page};
 ghost use Rattle.rv_step.specs.State.{State, state_of, IsChained};
 ghost use Rattle.checkpoint_run.specs.TamperedRun.{tampered, run_from};
 ghost use Rattle.checkpoint_run.specs.AtRest.{ended, to_come};
 ghost use Rattle.checkpoint_run.specs.NamedPages.{IsNamed, ArePages};
-ghost use Rattle.checkpoint_run.specs.WrittenPages.{how_many};
-ghost use Rattle.checkpoint_run.specs.Versions.{AreBelow, IsShownBut, is_among};
+ghost use Rattle.checkpoint_run.specs.WrittenPages.{count_named};
+ghost use Rattle.checkpoint_run.specs.Versions.{AreBelow, IsShownBut};
 ghost use Rattle.checkpoint_run.specs.NotedPages.{AreNoted};
 ghost use Rattle.checkpoint_run.specs.Keeping.{IsPushed};
 ghost use Rattle.checkpoint_run.specs.UnderWay.{IsKeptTo, IsUnderWay, HasEnded, IsAtEnd};
@@ -103,10 +104,10 @@ fn forget(lately: &mut Vec<u64>)
 fn note(changed: &mut BTreeSet<u32>, lately: &mut Vec<u64>, page: Option<u32>) -> Result<(), Memory>
     requires places { vec_len lately.old ≡ 256 }
     requires noted { AreNoted lately.old.items changed.old.keys }
-    ensures named { OnOk result ((p : ℕ) → is_among changed.new.keys p ≡ false → IsNamed p (page ∷ []) → ⊥) }
-    ensures kept { OnOk result ((p : ℕ) → is_among changed.new.keys p ≡ false → is_among changed.old.keys p ≡ false) }
-    ensures only { OnOk result ((p : ℕ) → is_among changed.new.keys p ≡ true → (is_among changed.old.keys p ≡ true) ⊎ IsNamed p (page ∷ [])) }
-    ensures few { OnOk result (length changed.new.keys ≤ length changed.old.keys + how_many (page ∷ [])) }
+    ensures named { OnOk result ((p : ℕ) → has_page changed.new.keys p ≡ false → IsNamed p (page ∷ []) → ⊥) }
+    ensures kept { OnOk result ((p : ℕ) → has_page changed.new.keys p ≡ false → has_page changed.old.keys p ≡ false) }
+    ensures only { OnOk result ((p : ℕ) → has_page changed.new.keys p ≡ true → (has_page changed.old.keys p ≡ true) ⊎ IsNamed p (page ∷ [])) }
+    ensures few { OnOk result (length changed.new.keys ≤ length changed.old.keys + count_named (page ∷ [])) }
     ensures pages { OnOk result (ArePages (page ∷ []) → AreBelow changed.old.keys → AreBelow changed.new.keys) }
     ensures places { OnOk result (vec_len lately.new ≡ 256) }
     ensures noted { OnOk result (AreNoted lately.new.items changed.new.keys) }

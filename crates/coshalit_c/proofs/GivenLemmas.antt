@@ -33,7 +33,7 @@ use Rattle.rv_step.specs.Loaded.{started}
 use Rattle.case_reader.specs.Case.{CaseData}
 use Rattle.open_match.specs.Laws.{machine_rules, OpenMatchesAreRight, TrueAnswersHaveWireForms}
 use Rattle.open_match.proofs.HeadLemmas.{AreNumbers, numbers, playable}
-use Rattle.delegate.specs.Loading.{within_limit, case_in, image_in, start_in}
+use Rattle.delegate.specs.Loading.{within_limit, case_or_refusal, image_or_refusal, start_or_refusal}
 use Rattle.delegate.specs.Outcome.{either_way}
 use Rattle.delegate.specs.Refusal.{too_long}
 use Rattle.delegate.specs.OfCase.{root_of_start, start_response, response_by, may_ask, answer_of_run, answer_response}
@@ -74,25 +74,25 @@ Answering = List ℕ → Result Response Response
 limit-as : Bool → List ℕ → Result (List ℕ) Response
 limit-as many bytes = cond many (Err too_long) (Ok bytes)
 
-responds : (bytes : List ℕ) (c : CaseData) (answer : Answering) (r : Response) → (within_limit bytes >>= case_in) ≡ Ok c → (case_in bytes ≡ Ok c → answer bytes ≡ Ok r) → response_by answer bytes ≡ r
+responds : (bytes : List ℕ) (c : CaseData) (answer : Answering) (r : Response) → (within_limit bytes >>= case_or_refusal) ≡ Ok c → (case_or_refusal bytes ≡ Ok c → answer bytes ≡ Ok r) → response_by answer bytes ≡ r
 responds bytes c answer r = by (nat_lt 16777216 (length bytes))
   where
-    by : (many : Bool) → (cond many (Err too_long) (Ok bytes) >>= case_in) ≡ Ok c → (case_in bytes ≡ Ok c → answer bytes ≡ Ok r) → either_way (cond many (Err too_long) (Ok bytes) >>= answer) ≡ r
+    by : (many : Bool) → (cond many (Err too_long) (Ok bytes) >>= case_or_refusal) ≡ Ok c → (case_or_refusal bytes ≡ Ok c → answer bytes ≡ Ok r) → either_way (cond many (Err too_long) (Ok bytes) >>= answer) ≡ r
     by true read then = absurd (cc read)
     by false read then = ap either_way (then read)
 
-answers : (k : Kind) (bytes : List ℕ) (c : CaseData) (start : State) → may_ask c.bound k ≡ true → start_in Whole c ≡ Ok start → case_in bytes ≡ Ok c → answer_response k bytes ≡ Ok (answer_of_run k c start)
+answers : (k : Kind) (bytes : List ℕ) (c : CaseData) (start : State) → may_ask c.bound k ≡ true → start_or_refusal Whole c ≡ Ok start → case_or_refusal bytes ≡ Ok c → answer_response k bytes ≡ Ok (answer_of_run k c start)
 unfolding answer_response
 answers k bytes c start may loaded read = rw (read, may, loaded) refl
 
-begins : (bytes : List ℕ) (c : CaseData) (start : State) → start_in Whole c ≡ Ok start → case_in bytes ≡ Ok c → start_response bytes ≡ Ok (root_of_start start)
+begins : (bytes : List ℕ) (c : CaseData) (start : State) → start_or_refusal Whole c ≡ Ok start → case_or_refusal bytes ≡ Ok c → start_response bytes ≡ Ok (root_of_start start)
 unfolding start_response
 begins bytes c start loaded read = rw (read, loaded) refl
 
 -- a start has no output, and the version of its case
-starts : (c : CaseData) (start : State) → start_in Whole c ≡ Ok start → (start.output ≡ []) × (start.version ≡ c.version)
-unfolding start_in
-starts c start = by (image_in Whole c)
+starts : (c : CaseData) (start : State) → start_or_refusal Whole c ≡ Ok start → (start.output ≡ []) × (start.version ≡ c.version)
+unfolding start_or_refusal
+starts c start = by (image_or_refusal Whole c)
   where
     by : (image : Result Image Response) → (image >>= (λ i. Ok (started c.version i.memory i.entry c.input))) ≡ Ok start → (start.output ≡ []) × (start.version ≡ c.version)
     by (Ok i) loaded =

@@ -16,7 +16,7 @@ use Rattle.case_reader.specs.Case.{CaseData}
 use Rattle.open_match.specs.Log.{IsLogOf}
 use Rattle.open_match.specs.OpenMatch.{numbers_are_in_limits}
 use Rattle.open_match.specs.Laws.{machine_rules, IsSafeAndRight}
-use Rattle.delegate.specs.Loading.{within_limit, case_in, start_in}
+use Rattle.delegate.specs.Loading.{within_limit, case_or_refusal, start_or_refusal}
 use Rattle.delegate.specs.OfCase.{start_response, response_by}
 use Rattle.delegate.specs.declared.response.Subject.TheVariants.{Whole}
 use Rattle.delegate.specs.declared.response.Answered.TheVariants.{Done}
@@ -33,8 +33,8 @@ pub record IsMatchOfCase (bytes : List ℕ) (n : CoshalitNumbers) : Type 0 where
   pub limits : numbers_are_in_limits (head_of_match n) ≡ true
   pub of : CaseData
   pub start : State
-  pub read : (within_limit bytes >>= case_in) ≡ Ok of
-  pub loaded : start_in Whole of ≡ Ok start
+  pub read : (within_limit bytes >>= case_or_refusal) ≡ Ok of
+  pub loaded : start_or_refusal Whole of ≡ Ok start
   pub valid : IsValid start
   pub version : n.version ≡ of.version
   pub bound : n.bound ≡ of.bound

@@ -13,7 +13,7 @@ use Rattle.tournament.specs.Moves.{MatchState}
 use Rattle.transcript_text.specs.declared.text.Head.{Head}
 use Rattle.transcript_text.specs.FullLines.{full_text}
 use Rattle.audit.specs.OwnMatch.{IsReadAndConfirmed}
-use Rattle.proof_wire.specs.Fault.{rule_of}
+use Rattle.proof_wire.specs.Fault.{wire_rule}
 use Rattle.open_match.specs.OpenMatch.{IsAfterLog}
 use Rattle.open_match.specs.Log.{IsNoLogAt}
 use Rattle.open_match.specs.Laws.{machine_rules}
@@ -91,7 +91,7 @@ or_zero None = 0
 abbrev pub entry_rule_number : EntryFault → ℕ
 entry_rule_number no_entry.Cut = 0
 entry_rule_number no_entry.NoProver = 0
-entry_rule_number (no_entry.NoAnswer fault) = or_zero (rule_of fault)
+entry_rule_number (no_entry.NoAnswer fault) = or_zero (wire_rule fault)
 entry_rule_number no_entry.Memory = 0
 
 -- the bytes are no log: where and why

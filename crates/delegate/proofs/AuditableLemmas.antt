@@ -40,7 +40,7 @@ use Rattle.case_match.specs.Match.{start_root, rules_of_case, setup_of, says_of_
 use Rattle.case_match.specs.TruthfulInCase.{IsInRange}
 use Rattle.digest_core.specs.Name.{digest_of}
 use Rattle.delegate.specs.Decided.{written_as, match_head, balances_in, before_verdict, response_to_case}
-use Rattle.delegate.specs.Loading.{image_in, start_in}
+use Rattle.delegate.specs.Loading.{image_or_refusal, start_or_refusal}
 use Rattle.delegate.specs.Refusal.{or_refusal}
 use Rattle.delegate.specs.commands.Judge.{judging}
 use Rattle.delegate.specs.commands.Audit.{text_refusal, ruling_of_text, response_to_finding, audit_response}
@@ -155,9 +155,9 @@ texts-confirmed law one_line name c start auditing range same written short is =
     }
 
 -- the run of a case starts in a state of the case's version
-start-version : (subject : Subject) (c : CaseData) (start : State) → start_in subject c ≡ Ok start → start.version ≡ c.version
-unfolding start_in
-start-version subject c start is = by (image_in subject c) is
+start-version : (subject : Subject) (c : CaseData) (start : State) → start_or_refusal subject c ≡ Ok start → start.version ≡ c.version
+unfolding start_or_refusal
+start-version subject c start is = by (image_or_refusal subject c) is
   where
     by : (r : Result Image Response) → (r >>= (λ (image : Image). Ok (started c.version image.memory image.entry c.input))) ≡ Ok start → start.version ≡ c.version
     by (Ok image) loads = (let both : started c.version image.memory image.entry c.input ≡ start = cc loads in sym (ap (λ (s : State). s.version) both))

@@ -23,7 +23,7 @@ use Rattle.case_match.specs.HonestScripts.{UntouchedProversAreTruthful}
 use Rattle.delegate.specs.Answered.{status_number}
 use Rattle.digest_core.specs.Name.{digest_of}
 use Rattle.delegate.specs.Decided.{summary, before_verdict, match_head, balances_in, response_to_case, case_for}
-use Rattle.delegate.specs.Loading.{start_in}
+use Rattle.delegate.specs.Loading.{start_or_refusal}
 use Rattle.delegate.specs.commands.Big.{summing_up}
 use Rattle.delegate.specs.Headline.{HeadlineOfCases, AcceptsTheRun, ShowsCollision, IsCase}
 use Rattle.delegate.specs.InShort.{honest, accepting, colliding, EndsWith, EndsWithTwoStrings, big_start, big_bound, SaysOfBig, IsWrittenOf}
@@ -64,8 +64,8 @@ honest-plays seed =
 
 -- ITS IMAGE IS LOADED
 
-big-loads : (seed : ℕ) → start_in Whole (big_data seed) ≡ Ok (big_start seed)
-unfolding start_in big_data flat_at program
+big-loads : (seed : ℕ) → start_or_refusal Whole (big_data seed) ≡ Ok (big_start seed)
+unfolding start_or_refusal big_data flat_at program
 big-loads seed = refl
 
 bound-is : (seed : ℕ) → (big_data seed).bound ≡ big_bound

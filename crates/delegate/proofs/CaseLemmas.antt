@@ -15,15 +15,15 @@ use Rattle.command_line.specs.declared.request.Command.{Command}
 use Rattle.command_line.specs.declared.request.Command.TheVariants.{Judge, Run, Roots, Audit, Listing, Big}
 use Rattle.case_match.specs.TruthfulInCase.{IsInRange}
 use Rattle.delegate.specs.Refusal.{too_long, case_refusal, task_refusal, or_refusal}
-use Rattle.delegate.specs.Loading.{within_limit, case_in, tasks_in, start_in, starts_in}
+use Rattle.delegate.specs.Loading.{within_limit, case_or_refusal, tasks_or_refusal, start_or_refusal, starts_or_refusal}
 use Rattle.digest_core.specs.Name.{digest_of}
-use Rattle.delegate.specs.Decided.{Written, report, full, summary, Deciding, written_as, case_for, tasks_within_limit, tasks_for, response_to_case, together, responses_to_cases, StandsUnder}
+use Rattle.delegate.specs.Decided.{WhichText, report, full, summary, Deciding, written_as, case_for, tasks_within_limit, tasks_for, response_to_case, together, responses_to_cases, StandsUnder}
 use Rattle.delegate.specs.commands.Judge.{judging, response_to_tasks, judge_response}
 use Rattle.delegate.specs.commands.Big.{summing_up, big_response}
 use Rattle.delegate.specs.Outcome.{bytes_for, carried_out, decides, response_to, outcome}
 use Rattle.delegate.specs.Headline.{Headline, AreByteStrings, HeadlineOfCases, AnswersTheCase, KeepsTheTruthful, AnswersTheTasks, AreTasks, KeepsTheTruthfulOfTasks}
 use Rattle.case_match.specs.Match.{record_of_case, verdict_of_record}
-use Rattle.delegate.specs.Standing.{AreAllInRange, AreAllShown, AreAllPlayed, IsPlayed, AreInRange, AreInRangeIfThere, DecidesInRange, CasesAreInRange, Stands, IsEitherWay}
+use Rattle.delegate.specs.Standing.{AreAllInRange, AreAllShown, AreAllPlayed, IsPlayed, AreInRangeOnceLoaded, AreInRangeIfThere, DecidesInRange, CasesAreInRange, Stands, IsEitherWay}
 use Rattle.delegate.specs.declared.response.Subject.TheVariants.{Whole}
 use Rattle.delegate.specs.declared.response.Response.{Response}
 use Rattle.delegate.specs.declared.response.Stop.{Stop}
@@ -32,7 +32,7 @@ use Rattle.delegate.proofs.TaskLemmas.{decided-stands, played-of, played-at}
 
 -- a command that decides answers by what it reads
 
-judged-tasks : (text : MatchText) (name : DigestName) (tasks : TasksData) (read : Result (List ℕ) Response) → (read >>= tasks_in) ≡ Ok tasks
+judged-tasks : (text : MatchText) (name : DigestName) (tasks : TasksData) (read : Result (List ℕ) Response) → (read >>= tasks_or_refusal) ≡ Ok tasks
     → (read >>= judge_response text name) ≡ response_to_tasks (judging text name) tasks
 unfolding judge_response
 judged-tasks text name tasks (Ok given) reads = goes_on _ _ _ reads
@@ -79,11 +79,11 @@ tasks-steps words bytes m tasks is reads = by (chosen words) refl
         let asked : decides command ≡ Some m = sym (ap (option_and_then decides) some) ∙ is in
         of_command words bytes command some ∙ command-tasks command bytes m tasks asked reads
 
-one-judged : (m : Deciding) (c : CaseData) (start : State) → start_in Whole c ≡ Ok start → response_to_tasks m (One c) ≡ Ok (response_to_case m c start)
+one-judged : (m : Deciding) (c : CaseData) (start : State) → start_or_refusal Whole c ≡ Ok start → response_to_tasks m (One c) ≡ Ok (response_to_case m c start)
 unfolding response_to_tasks
 one-judged m c start loads = goes_on _ _ _ loads
 
-many-judged : (m : Deciding) (cs : List CaseData) (starts : List State) → starts_in 1 cs ≡ Ok starts → response_to_tasks m (Many cs) ≡ Ok (together (responses_to_cases m cs starts))
+many-judged : (m : Deciding) (cs : List CaseData) (starts : List State) → starts_or_refusal 1 cs ≡ Ok starts → response_to_tasks m (Many cs) ≡ Ok (together (responses_to_cases m cs starts))
 unfolding response_to_tasks
 many-judged m cs starts loads = goes_on _ _ _ loads
 
@@ -93,12 +93,12 @@ case-ok : (r : Result CaseData CaseFault) (c : CaseData) → or_refusal (case_re
 case-ok (Ok x) c is = ap Ok (cc is)
 case-ok (Err fault) c is = absurd (cc is)
 
-bytes-one : CasesAreTasks → (bytes : List ℕ) (c : CaseData) (many : Bool) → (cond many (Err too_long) (Ok bytes) >>= case_in) ≡ Ok c
-    → (cond many (Err too_long) (Ok bytes) >>= tasks_in) ≡ Ok (One c)
+bytes-one : CasesAreTasks → (bytes : List ℕ) (c : CaseData) (many : Bool) → (cond many (Err too_long) (Ok bytes) >>= case_or_refusal) ≡ Ok c
+    → (cond many (Err too_long) (Ok bytes) >>= tasks_or_refusal) ≡ Ok (One c)
 bytes-one law bytes c true is = absurd (cc is)
 bytes-one law bytes c false is = ap (or_refusal task_refusal) ((law.same bytes c).1 (case-ok (case_at bytes) c is))
 
-pub one-case : CasesAreTasks → (written : Written) (bytes : List ℕ) (c : CaseData) → case_for written bytes ≡ Ok c → tasks_for written bytes ≡ Ok (One c)
+pub one-case : CasesAreTasks → (written : WhichText) (bytes : List ℕ) (c : CaseData) → case_for written bytes ≡ Ok c → tasks_for written bytes ≡ Ok (One c)
 unfolding case_for tasks_for
 one-case law (summary seed) bytes c is = ap (λ (x : CaseData). Ok (One x)) (cc is)
 one-case law report bytes c is = bytes-one law bytes c (nat_lt 16777216 (length bytes)) is
@@ -203,30 +203,30 @@ ended-is-it words bytes given command (Err stop) response taken read stands deci
 pub same-ok : {X E : Type 0} (r : Result X E) (x y : X) → r ≡ Ok x → r ≡ Ok y → x ≡ y
 same-ok r x y one other = (let both = sym one ∙ other in cc both)
 
-pub one-in-range : (m : Deciding) (c : CaseData) (start : State) → start_in Whole c ≡ Ok start → IsPlayed m c start → AreInRange m (One c)
-one-in-range m c start loads played other is = subst (IsPlayed m c) (same-ok (start_in Whole c) start other loads is) played
+pub one-in-range : (m : Deciding) (c : CaseData) (start : State) → start_or_refusal Whole c ≡ Ok start → IsPlayed m c start → AreInRangeOnceLoaded m (One c)
+one-in-range m c start loads played other is = subst (IsPlayed m c) (same-ok (start_or_refusal Whole c) start other loads is) played
 
-pub many-in-range : (m : Deciding) (cs : List CaseData) (starts : List State) → starts_in 1 cs ≡ Ok starts → AreAllInRange cs starts → AreAllShown (digest_of m.digest) m cs starts → AreInRange m (Many cs)
-many-in-range m cs starts loads ranges shown other is = subst (AreAllPlayed m cs) (same-ok (starts_in 1 cs) starts other loads is) (played-of m cs starts ranges shown)
+pub many-in-range : (m : Deciding) (cs : List CaseData) (starts : List State) → starts_or_refusal 1 cs ≡ Ok starts → AreAllInRange cs starts → AreAllShown (digest_of m.digest) m cs starts → AreInRangeOnceLoaded m (Many cs)
+many-in-range m cs starts loads ranges shown other is = subst (AreAllPlayed m cs) (same-ok (starts_or_refusal 1 cs) starts other loads is) (played-of m cs starts ranges shown)
 
-pub judged-in-range : (text : MatchText) (name : DigestName) (bytes : List ℕ) (tasks : TasksData) → tasks_in bytes ≡ Ok tasks → AreInRange (judging text name) tasks
+pub judged-in-range : (text : MatchText) (name : DigestName) (bytes : List ℕ) (tasks : TasksData) → tasks_or_refusal bytes ≡ Ok tasks → AreInRangeOnceLoaded (judging text name) tasks
     → AreInRangeIfThere (judging text name) (tasks_for (written_as text) bytes)
 judged-in-range text name bytes tasks reads range other is =
-    subst (AreInRange (judging text name)) (same-ok (tasks_in bytes) tasks other reads (by (nat_lt 16777216 (length bytes)) (sym (tasks-read text bytes) ∙ is))) range
+    subst (AreInRangeOnceLoaded (judging text name)) (same-ok (tasks_or_refusal bytes) tasks other reads (by (nat_lt 16777216 (length bytes)) (sym (tasks-read text bytes) ∙ is))) range
   where
-    by : (many : Bool) → (cond many (Err too_long) (Ok bytes) >>= tasks_in) ≡ Ok other → tasks_in bytes ≡ Ok other
+    by : (many : Bool) → (cond many (Err too_long) (Ok bytes) >>= tasks_or_refusal) ≡ Ok other → tasks_or_refusal bytes ≡ Ok other
     by true e = absurd (cc e)
     by false e = e
 
-pub summary-in-range : (seed : ℕ) (bytes : List ℕ) (c : CaseData) (start : State) → c ≡ big_data seed → start_in Whole c ≡ Ok start → IsInRange c start
+pub summary-in-range : (seed : ℕ) (bytes : List ℕ) (c : CaseData) (start : State) → c ≡ big_data seed → start_or_refusal Whole c ≡ Ok start → IsInRange c start
     → AreByteStrings (verdict_of_record (digest_of (summing_up seed).digest) c start (record_of_case (digest_of (summing_up seed).digest) c start)) → AreInRangeIfThere (summing_up seed) (tasks_for (summary seed) bytes)
 unfolding tasks_for
 summary-in-range seed bytes c start same loads range strings other is =
     let both : Ok (One c) ≡ Ok other = ap (λ (x : CaseData). Ok (One x)) same ∙ is in
-    subst (AreInRange (summing_up seed)) (same-ok (Ok (One c)) (One c) other refl both)
+    subst (AreInRangeOnceLoaded (summing_up seed)) (same-ok (Ok (One c)) (One c) other refl both)
     (one-in-range (summing_up seed) c start loads (record { range = range; strings = strings; written = λ is. absurd (cc is) }))
 
-pub big-stands : (seed : ℕ) (c : CaseData) (start : State) (response : Response) → c ≡ big_data seed → start_in Whole c ≡ Ok start → response ≡ response_to_case (summing_up seed) c start → big_response seed ≡ Ok response
+pub big-stands : (seed : ℕ) (c : CaseData) (start : State) (response : Response) → c ≡ big_data seed → start_or_refusal Whole c ≡ Ok start → response ≡ response_to_case (summing_up seed) c start → big_response seed ≡ Ok response
 big-stands seed c start response same loads is =
     big-judged seed
     ∙ (ap (λ (x : CaseData). response_to_tasks (summing_up seed) (One x)) (sym same)

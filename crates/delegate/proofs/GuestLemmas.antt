@@ -22,7 +22,7 @@ use Rattle.guests.specs.Guest.{HasPutOut}
 use Rattle.guests.specs.Sum.{byte_total, summed_bytes, SeedsAreSummed}
 use Rattle.guests.specs.Adler32.{adler32_of}
 use Rattle.guests.specs.Adler32File.{adler32_file, FileLoads, FileComputesAdler32}
-use Rattle.delegate.specs.InShort.{ImageRule, honest, accepting, HasLastLine, ShowsTwoStrings, Accepts, Answers, Collides, TaskEnds, EndsWith, EndsWithTwoStrings, IsStartOf, Sentence, big_start, big_bound, SaysOfBig, IsWrittenOf}
+use Rattle.delegate.specs.InShort.{ImageRule, honest, accepting, HasLastLine, ShowsTwoStrings, Accepts, AnswersWith, Collides, TaskEnds, EndsWith, EndsWithTwoStrings, IsStartOf, Sentence, big_start, big_bound, SaysOfBig, IsWrittenOf}
 use Rattle.delegate.specs.Guests.{exited_with, SaysTheSum, IsChecksumCase, accepting_checksum, SaysTheChecksum}
 
 -- what is said of a run that has put out some bytes
@@ -99,7 +99,7 @@ accepts-or-shows : (name : DigestName) (line : List ℕ) (final : State) (text :
 accepts-or-shows name line final text is (inl accepts) = inl (subst (λ l. HasLastLine (codes "accept " ++ l) text) is accepts)
 accepts-or-shows name line final text is (inr shows) = inr shows
 
-answers-so : (line : List ℕ) (final : State) (status : ℕ) (text : List ℕ) → answer_text final.status final.output ≡ line → Answers final status text
+answers-so : (line : List ℕ) (final : State) (status : ℕ) (text : List ℕ) → answer_text final.status final.output ≡ line → AnswersWith final status text
     → (status ≡ 0) × (text ≡ codes "answer " ++ (line ++ codes "\n"))
 answers-so line final status text is answers = (answers.done, answers.line ∙ ap (λ l. codes "answer " ++ (l ++ codes "\n")) is)
 

@@ -25,7 +25,7 @@ use Rattle.case_match.specs.TruthfulInCase.{IsSafeInCase, TruthfulProversOfCases
 use Rattle.command_line.specs.declared.request.MatchText.{MatchText}
 use Rattle.command_line.specs.declared.request.MatchText.TheVariants.{Report, Full}
 use Rattle.digest_core.specs.Name.{digest_of}
-use Rattle.delegate.specs.Decided.{Written, report, full, summary, written_as, Deciding, match_text, answered_by, match_head, balances_in, before_verdict, answered_for, response_to_case}
+use Rattle.delegate.specs.Decided.{WhichText, report, full, summary, written_as, Deciding, match_text, answered_by, match_head, balances_in, before_verdict, answered_for, response_to_case}
 use Rattle.transcript_text.specs.declared.text.Head.{Head}
 use Rattle.delegate.specs.declared.response.Answered.TheVariants.{Done}
 use Rattle.delegate.specs.Headline.{AcceptsTheRun, ShowsCollision, AreByteStrings, HeadlineOfCases}
@@ -57,7 +57,7 @@ line-of-true t claims (suc k) some claim =
     ap line_of_accepted (subst (λ i. slice_get claims i ≡ Some (Some (settled.Given (answer.Claim t.claim)))) (omega arith) claim)
 
 -- the text is what comes before the verdict's line, and that line
-pub text-before : (written : Written) (head : Head) (settled : Record) (balances : Option Balances) (verdict : Verdict)
+pub text-before : (written : WhichText) (head : Head) (settled : Record) (balances : Option Balances) (verdict : Verdict)
     → match_text written head settled balances verdict ≡ before_verdict written head settled balances (text_if_there (line_of_verdict settled.claims verdict))
 text-before report head settled balances verdict = refl
 text-before full head settled balances verdict = refl
@@ -69,7 +69,7 @@ answered_as Report verdict = refl
 answered_as Full verdict = refl
 
 -- where a claim is accepted the answer is that all is done
-accepts-done : (written : Written) (n : ℕ) → answered_for written (Accept n) ≡ Done
+accepts-done : (written : WhichText) (n : ℕ) → answered_for written (Accept n) ≡ Done
 accepts-done report n = refl
 accepts-done full n = refl
 accepts-done (summary seed) n = refl

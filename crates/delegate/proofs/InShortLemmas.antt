@@ -31,13 +31,13 @@ use Rattle.case_match.specs.HonestScripts.{UntouchedProversAreTruthful}
 use Rattle.delegate.specs.Answered.{status_number}
 use Rattle.digest_core.specs.Name.{digest_of}
 use Rattle.delegate.specs.Decided.{written_as, before_verdict, answered_for, match_head, balances_in, response_to_case, case_for}
-use Rattle.delegate.specs.Loading.{start_in}
+use Rattle.delegate.specs.Loading.{start_or_refusal}
 use Rattle.delegate.specs.Refusal.{or_refusal, case_refusal}
 use Rattle.delegate.specs.commands.Judge.{judging}
 use Rattle.delegate.specs.commands.Run.{run_response, answer_of_run}
 use Rattle.delegate.specs.Headline.{HeadlineOfCases, AcceptsTheRun, ShowsCollision, IsCase}
 use Rattle.transcript_text.specs.TaskParts.{TextsAreTaskParts}
-use Rattle.delegate.specs.InShort.{AskForTheMatch, AskForTheRun, IsImageOf, IsStartOf, IsCaseOf, honest, HasLastLine, accepting, colliding, Collides, AcceptsOrCollides, Answers, SaysInShort, IsWrittenOf}
+use Rattle.delegate.specs.InShort.{AskForTheMatch, AskForTheRun, IsImageOf, IsStartOf, IsCaseOf, honest, HasLastLine, accepting, colliding, Collides, AcceptsOrCollides, AnswersWith, SaysInShort, IsWrittenOf}
 use Rattle.delegate.specs.InShortLaw.{HeadlineInShort, JudgeAcceptsWhatRunPrints}
 use Rattle.delegate.specs.Outcome.{decides, outcome}
 use Rattle.delegate.specs.Standing.{IsPlayed, CasesAreInRange}
@@ -190,15 +190,15 @@ judge-in-short law short words bytes in_range name c start asks reads starts con
     subst (λ (r : Response). AcceptsOrCollides name (state_at start c.bound) (status_number r.answered) r.text) (sym (outcome-case law words bytes m c start is))
     (short asks.text name c start played.range played.strings contains)
 
-run-is : (bytes : List ℕ) (c : CaseData) (start : State) → case_at bytes ≡ Ok c → start_in Whole c ≡ Ok start → run_response bytes ≡ Ok (answer_of_run c start)
+run-is : (bytes : List ℕ) (c : CaseData) (start : State) → case_at bytes ≡ Ok c → start_or_refusal Whole c ≡ Ok start → run_response bytes ≡ Ok (answer_of_run c start)
 unfolding run_response
 run-is bytes c start reads loads = goes_on _ _ _ (ap (or_refusal (case_refusal Whole)) reads) ∙ goes_on _ _ _ loads
 
 run-in-short : (words : List (List ℕ)) (bytes : List ℕ) (c : CaseData) (start : State) → AskForTheRun words → IsCaseOf bytes c → IsStartOf IsImageOf c start
-    → Answers (state_at start c.bound) (status_number (outcome words bytes).answered) (outcome words bytes).text
+    → AnswersWith (state_at start c.bound) (status_number (outcome words bytes).answered) (outcome words bytes).text
 run-in-short words bytes c start chosen_is reads starts =
     let is : outcome words bytes ≡ answer_of_run c start = outcome-of words bytes _ (of_command words bytes Run chosen_is ∙ (goes_on _ _ _ (under_limit bytes reads.short) ∙ run-is bytes c start reads.reads (start-is Whole c start starts))) in
-    subst (λ (r : Response). Answers (state_at start c.bound) (status_number r.answered) r.text) (sym is) (record { done = refl; line = refl })
+    subst (λ (r : Response). AnswersWith (state_at start c.bound) (status_number r.answered) r.text) (sym is) (record { done = refl; line = refl })
 
 pub outcome-in-short : CasesAreTasks → TextsAreTaskParts → HeadlineInShort → (words : List (List ℕ)) (bytes : List ℕ) → CasesAreInRange words bytes
     → SaysInShort words bytes (status_number (outcome words bytes).answered) (outcome words bytes).text

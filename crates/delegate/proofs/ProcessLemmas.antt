@@ -3,13 +3,13 @@ use Rattle.std.proofs.Common.{◌≡◌, ◌↔◌, true, ℕ, List, Option, Som
 use Rattle.command_line.specs.Words.{chosen}
 use Rattle.delegate.specs.Answered.{status_number, is_outcome, is_answer_to, reads_all}
 use Rattle.delegate.specs.Outcome.{outcome}
-use Rattle.delegate.specs.Writing.{is_whole, is_read_whole, ForItsBytes, IsWrittenBy, IsWritten, IsStatusOf}
+use Rattle.delegate.specs.Writing.{is_written_whole, is_read_whole, ForItsBytes, IsWrittenBy, IsWritten, IsStatusOf}
 use Rattle.delegate.specs.declared.response.Response.{Response}
 use Rattle.delegate.specs.declared.response.Answered.{Answered}
 use Rattle.delegate.specs.declared.response.Answered.TheVariants.{Done, Usage, Case, Image, ReadFault, WriteFault, AuditRefused, Memory, NoneLeft, Collision, TooLong}
 use Rattle.delegate.proofs.OutcomeLemmas.{for_its_bytes}
 
-pub whole : (answered : Answered) → is_whole (status_number answered) ≡ true → is_outcome answered ≡ true
+pub whole : (answered : Answered) → is_written_whole (status_number answered) ≡ true → is_outcome answered ≡ true
 whole Done is = is
 whole Usage is = is
 whole Case is = is
@@ -97,8 +97,8 @@ not-status-6 answered other is = other (ap status_number is)
 pub by-status : (response : Response) (answered : Answered) (status : ℕ) (before now : Option (List ℕ)) → status ≡ status_number answered → IsWritten response answered before now → IsWrittenBy response status before now
 by-status response answered status before now is written = record { status_is = is ∙ ap status_number written.answered; text = written.text }
 
-pub whole-by : (answered : Answered) (status : ℕ) → status ≡ status_number answered → is_whole status ≡ true → is_outcome answered ≡ true
-whole-by answered status is wholly = whole answered (sym (ap is_whole is) ∙ wholly)
+pub whole-by : (answered : Answered) (status : ℕ) → status ≡ status_number answered → is_written_whole status ≡ true → is_outcome answered ≡ true
+whole-by answered status is wholly = whole answered (sym (ap is_written_whole is) ∙ wholly)
 
 -- what is promised of an answer and the words is promised of its status and of the words as they were given
 pub promised-by : (left : Option (List ℕ)) (P : List (List ℕ) → List ℕ → Type 0) (words other : List (List ℕ)) (answered : Answered) (status : ℕ) (before now : Option (List ℕ))

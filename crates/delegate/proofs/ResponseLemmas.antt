@@ -33,7 +33,7 @@ use Rattle.command_line.specs.declared.request.Command.TheVariants.{Judge, Run, 
 use Rattle.delegate.specs.Refusal.{too_long, case_refusal, task_refusal, image_refusal, asm_refusal, or_refusal}
 use Rattle.digest_core.specs.Name.{digest_of}
 use Rattle.delegate.specs.Decided.{Deciding, response_to_case, together, responses_to_cases}
-use Rattle.delegate.specs.Loading.{within_limit, case_in, image_by, start_in, starts_in}
+use Rattle.delegate.specs.Loading.{within_limit, case_or_refusal, image_by, start_or_refusal, starts_or_refusal}
 use Rattle.delegate.specs.commands.Judge.{judging, response_to_tasks, judge_response}
 use Rattle.delegate.specs.OfCase.{start_response, response_by, may_ask, answer_of_run, answer_response, has_steps, roots_of_steps, roots_at_response}
 use Rattle.bisect_game.specs.declared.settled.Kind.{Kind}
@@ -90,7 +90,7 @@ OfCommand P (Big seed) = OfMatches P (summing_up seed)
 
 -- a case that is read, and its image
 
-case-then : (P : Response → Type 0) → OfCases P → (bytes : List ℕ) (next : CaseData → Result Response Response) → ((c : CaseData) → Of P (next c)) → Of P (case_in bytes >>= next)
+case-then : (P : Response → Type 0) → OfCases P → (bytes : List ℕ) (next : CaseData → Result Response Response) → ((c : CaseData) → Of P (next c)) → Of P (case_or_refusal bytes >>= next)
 case-then P of bytes next further = by (case_at bytes) refl
   where
     by : (r : Result CaseData CaseFault) → case_at bytes ≡ r → Of P (or_refusal (case_refusal Whole) r >>= next)
@@ -130,18 +130,18 @@ image-fit P of subject Asm text = by (asm_at text) refl
     by (Ok image) is = tt
     by (Err fault) is = of.text subject text fault is
 
-start-fit : (P : Response → Type 0) → OfCases P → (subject : Subject) (c : CaseData) → IsFit P (start_in subject c)
-unfolding start_in
+start-fit : (P : Response → Type 0) → OfCases P → (subject : Subject) (c : CaseData) → IsFit P (start_or_refusal subject c)
+unfolding start_or_refusal
 start-fit P of subject c =
     fit-both P (image_by subject c.format c.image) (λ image. Ok (started c.version image.memory image.entry c.input)) (image-fit P of subject c.format c.image)
     (λ image. ok-fit P (started c.version image.memory image.entry c.input))
 
-starts-fit : (P : Response → Type 0) → OfCases P → (t : ℕ) (cs : List CaseData) → IsFit P (starts_in t cs)
-unfolding starts_in
+starts-fit : (P : Response → Type 0) → OfCases P → (t : ℕ) (cs : List CaseData) → IsFit P (starts_or_refusal t cs)
+unfolding starts_or_refusal
 starts-fit P of t [] = tt
 starts-fit P of t (c ∷ cs) =
-    fit-both P (start_in (Task t) c) (λ start. starts_in (t + 1) cs >>= (λ starts. Ok (start ∷ starts))) (start-fit P of (Task t) c)
-    (λ start. fit-both P (starts_in (t + 1) cs) (λ starts. Ok (start ∷ starts)) (starts-fit P of (t + 1) cs) (λ starts. ok-fit P (start ∷ starts)))
+    fit-both P (start_or_refusal (Task t) c) (λ start. starts_or_refusal (t + 1) cs >>= (λ starts. Ok (start ∷ starts))) (start-fit P of (Task t) c)
+    (λ start. fit-both P (starts_or_refusal (t + 1) cs) (λ starts. Ok (start ∷ starts)) (starts-fit P of (t + 1) cs) (λ starts. ok-fit P (start ∷ starts)))
 
 -- a text whose words aren't loaded has no image, for the same fault
 
@@ -171,8 +171,8 @@ words-fit P of Asm text = by (asm_words text) (asm-stops text) (asm-goes_on text
 
 judged-of : (P : Response → Type 0) (m : Deciding) → OfTasks P m → (tasks : TasksData) → Of P (response_to_tasks m tasks)
 unfolding response_to_tasks
-judged-of P m of (One c) = fit-then P (start_in Whole c) _ (start-fit P of.of_cases Whole c) (λ start. of.one c start)
-judged-of P m of (Many cs) = fit-then P (starts_in 1 cs) _ (starts-fit P of.of_cases 1 cs) (λ starts. of.many cs starts)
+judged-of P m of (One c) = fit-then P (start_or_refusal Whole c) _ (start-fit P of.of_cases Whole c) (λ start. of.one c start)
+judged-of P m of (Many cs) = fit-then P (starts_or_refusal 1 cs) _ (starts-fit P of.of_cases 1 cs) (λ starts. of.many cs starts)
 
 judge-of : (P : Response → Type 0) (text : MatchText) (name : DigestName) → OfTasks P (judging text name) → (bytes : List ℕ) → Of P (judge_response text name bytes)
 unfolding judge_response
@@ -184,11 +184,11 @@ judge-of P text name of bytes = by (tasks_at bytes) refl
 
 ran-of : (P : Response → Type 0) → OfCases P → (bytes : List ℕ) → Of P (run_response bytes)
 unfolding run_response
-ran-of P of bytes = case-then P of bytes _ (λ c. fit-then P (start_in Whole c) _ (start-fit P of Whole c) (λ start. of.done _))
+ran-of P of bytes = case-then P of bytes _ (λ c. fit-then P (start_or_refusal Whole c) _ (start-fit P of Whole c) (λ start. of.done _))
 
 pub start-of : (P : Response → Type 0) → OfCases P → (bytes : List ℕ) → Of P (start_response bytes)
 unfolding start_response
-start-of P of bytes = case-then P of bytes _ (λ c. fit-then P (start_in Whole c) _ (start-fit P of Whole c) (λ start. of.done _))
+start-of P of bytes = case-then P of bytes _ (λ c. fit-then P (start_or_refusal Whole c) _ (start-fit P of Whole c) (λ start. of.done _))
 
 -- a question as a test
 abbrev asked-as : Bool → Result (Unit {0}) Response
@@ -198,16 +198,16 @@ pub answer-of : (P : Response → Type 0) → OfCases P → P usage → (k : Kin
 unfolding answer_response
 answer-of P of unasked k bytes = case-then P of bytes _ (λ c. by c (may_ask c.bound k))
   where
-    by : (c : CaseData) (asked : Bool) → Of P (asked-as asked >>= (λ done. start_in Whole c >>= (λ start. Ok (answer_of_run k c start))))
-    by c true = fit-then P (start_in Whole c) (λ start. Ok (answer_of_run k c start)) (start-fit P of Whole c) (λ start. of.done (answer_of_run k c start).text)
+    by : (c : CaseData) (asked : Bool) → Of P (asked-as asked >>= (λ done. start_or_refusal Whole c >>= (λ start. Ok (answer_of_run k c start))))
+    by c true = fit-then P (start_or_refusal Whole c) (λ start. Ok (answer_of_run k c start)) (start-fit P of Whole c) (λ start. of.done (answer_of_run k c start).text)
     by c false = unasked
 
 pub roots-of : (P : Response → Type 0) → OfCases P → P usage → (steps bytes : List ℕ) → Of P (roots_at_response steps bytes)
 unfolding roots_at_response
 roots-of P of none steps bytes = case-then P of bytes _ (λ c. by c (has_steps c.bound steps))
   where
-    by : (c : CaseData) (there : Bool) → Of P (asked-as there >>= (λ done. start_in Whole c >>= (λ start. Ok (roots_of_steps steps c start))))
-    by c true = fit-then P (start_in Whole c) (λ start. Ok (roots_of_steps steps c start)) (start-fit P of Whole c) (λ start. of.done (roots_of_steps steps c start).text)
+    by : (c : CaseData) (there : Bool) → Of P (asked-as there >>= (λ done. start_or_refusal Whole c >>= (λ start. Ok (roots_of_steps steps c start))))
+    by c true = fit-then P (start_or_refusal Whole c) (λ start. Ok (roots_of_steps steps c start)) (start-fit P of Whole c) (λ start. of.done (roots_of_steps steps c start).text)
     by c false = none
 
 -- what is answered to bytes that are not too many, to all
@@ -226,9 +226,9 @@ rooted-of : (P : Response → Type 0) → OfCases P → (bytes : List ℕ) → O
 unfolding roots_response
 rooted-of P of bytes = case-then P of bytes _ (λ c. by c (nat_lt 4096 c.bound))
   where
-    by : (c : CaseData) (many : Bool) → Of P (limit (case_refusal Whole (OutOfRange key.Bound)) many >>= (λ few. start_in Whole c >>= (λ start. Ok (roots_of_run (digest_of Sha256) c start))))
+    by : (c : CaseData) (many : Bool) → Of P (limit (case_refusal Whole (OutOfRange key.Bound)) many >>= (λ few. start_or_refusal Whole c >>= (λ start. Ok (roots_of_run (digest_of Sha256) c start))))
     by c true = of.ranged key.Bound
-    by c false = fit-then P (start_in Whole c) _ (start-fit P of Whole c) (λ start. of.done _)
+    by c false = fit-then P (start_or_refusal Whole c) _ (start-fit P of Whole c) (λ start. of.done _)
 
 listed-of : (P : Response → Type 0) → OfCases P → (bytes : List ℕ) → Of P (list_response bytes)
 unfolding list_response
@@ -243,13 +243,13 @@ checked-of P of bytes = by (read_text bytes) refl
     by (Err fault) is = of.unread bytes fault is
 
 -- the large workload loads
-big-fit : (P : Response → Type 0) (seed : ℕ) → IsFit P (start_in Whole (big_data seed))
-unfolding start_in big_data program flat_at
+big-fit : (P : Response → Type 0) (seed : ℕ) → IsFit P (start_or_refusal Whole (big_data seed))
+unfolding start_or_refusal big_data program flat_at
 big-fit P seed = tt
 
 summed_up-of : (P : Response → Type 0) (seed : ℕ) → OfMatches P (summing_up seed) → Of P (big_response seed)
 unfolding big_response
-summed_up-of P seed matches = fit-then P (start_in Whole (big_data seed)) _ (big-fit P seed) (λ start. matches (big_data seed) start)
+summed_up-of P seed matches = fit-then P (start_or_refusal Whole (big_data seed)) _ (big-fit P seed) (λ start. matches (big_data seed) start)
 
 limit-then : (P : Response → Type 0) (bytes : List ℕ) (next : List ℕ → Result Response Response) → P too_long → ((given : List ℕ) → Of P (next given)) → Of P (within_limit bytes >>= next)
 limit-then P bytes next long further = by (nat_lt 16777216 (length bytes))

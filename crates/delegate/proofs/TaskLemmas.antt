@@ -15,12 +15,12 @@ use Rattle.case_match.specs.TruthfulInCase.{IsInRange}
 use Rattle.case_match.specs.declared.opening.LoadedCase.{LoadedCase}
 use Rattle.case_match.specs.declared.referee.Ended.{Ended}
 use Rattle.case_match.specs.Match.{rules_of_case, says_of_case, RecordsOfCasesAreSettledUp}
-use Rattle.case_match.specs.Openings.{ended_of}
+use Rattle.case_match.specs.Openings.{ended_of_loaded}
 use Rattle.delegate.specs.Answered.{graver}
 use Rattle.digest_core.specs.Name.{digest_of}
 use Rattle.delegate.specs.Decided.{Deciding, response_to_case, response_by, task_texts, gravest, together, responses_by, responses_to_cases, StandsUnder}
 use Rattle.delegate.specs.Standing.{IsFreshStart, responses, CanBePaid, AreAllInRange, AreAllPlayed, AreAllShown, EndsAreShown, IsPlayed, AreStarted, AddsStarts}
-use Rattle.delegate.specs.Loading.{start_in, starts_in}
+use Rattle.delegate.specs.Loading.{start_or_refusal, starts_or_refusal}
 use Rattle.delegate.specs.declared.response.Subject.{Subject}
 use Rattle.delegate.specs.declared.response.Subject.TheVariants.{Task}
 use Rattle.delegate.specs.declared.response.Response.{Response}
@@ -60,7 +60,7 @@ gravest-is is x done none collision (r ∷ rs) = graver-is is x none collision r
 
 -- the responses of endings are those to each task
 
-pub same-responses : (digest : List ℕ → List ℕ) (m : Deciding) (ls : List LoadedCase) → responses m (map (λ (l : LoadedCase). data_of l.case.now) ls) (map (ended_of digest) ls)
+pub same-responses : (digest : List ℕ → List ℕ) (m : Deciding) (ls : List LoadedCase) → responses m (map (λ (l : LoadedCase). data_of l.case.now) ls) (map (ended_of_loaded digest) ls)
     ≡ responses_by digest m (map (λ (l : LoadedCase). data_of l.case.now) ls) (map state_of (map (λ (l : LoadedCase). l.start) ls))
 same-responses digest m [] = refl
 same-responses digest m (l ∷ ls) = ap (λ (rs : List Response). response_by digest m (data_of l.case.now) (state_of l.start) ∷ rs) (same-responses digest m ls)
@@ -71,13 +71,13 @@ playable : (digest : List ℕ → List ℕ) (c : CaseOf) (start : State) → Are
 playable digest c start =
     record { some = omega (arith, c.somebody_plays); parted = omega (arith, c.parted); few_parts = c.few_parts; steps = omega (arith, c.bound_is_positive) }
 
-settled : RecordsOfCasesAreSettledUp → (digest : List ℕ → List ℕ) (ls : List LoadedCase) → CanBePaid (map (λ (l : LoadedCase). data_of l.case.now) ls) (map (ended_of digest) ls)
+settled : RecordsOfCasesAreSettledUp → (digest : List ℕ → List ℕ) (ls : List LoadedCase) → CanBePaid (map (λ (l : LoadedCase). data_of l.case.now) ls) (map (ended_of_loaded digest) ls)
 settled law digest [] = tt
 settled law digest (l ∷ ls) =
     (law (rules_of_case digest (data_of l.case.now) (state_of l.start)) (says_of_case digest (data_of l.case.now) (state_of l.start)) (playable digest l.case.now (state_of l.start)), settled law digest ls)
 
 pub all-settled : RecordsOfCasesAreSettledUp → (digest : List ℕ → List ℕ) (ls : List LoadedCase) (cs : List CaseData) (own_ends ends : List Ended) → map (λ (l : LoadedCase). data_of l.case.now) ls ≡ cs
-    → own_ends ≡ map (ended_of digest) ls → ends ≡ own_ends → CanBePaid cs ends
+    → own_ends ≡ map (ended_of_loaded digest) ls → ends ≡ own_ends → CanBePaid cs ends
 all-settled law digest ls cs own_ends ends cases_are own_are ends_are =
     subst (λ (ds : List CaseData). CanBePaid ds ends) cases_are
     (subst (CanBePaid (map (λ (l : LoadedCase). data_of l.case.now) ls)) (sym (ends_are ∙ own_are)) (settled law digest ls))
@@ -102,13 +102,13 @@ told-at digest m (d ∷ cs) (s ∷ starts) (suc i) c start at from = told-at dig
 
 -- what is shown of the ends of tasks is shown of their cases, each by itself
 
-shown-of : (digest : List ℕ → List ℕ) (m : Deciding) (ls : List LoadedCase) → EndsAreShown m (map (λ (l : LoadedCase). data_of l.case.now) ls) (map (ended_of digest) ls)
+shown-of : (digest : List ℕ → List ℕ) (m : Deciding) (ls : List LoadedCase) → EndsAreShown m (map (λ (l : LoadedCase). data_of l.case.now) ls) (map (ended_of_loaded digest) ls)
     → AreAllShown digest m (map (λ (l : LoadedCase). data_of l.case.now) ls) (map state_of (map (λ (l : LoadedCase). l.start) ls))
 shown-of digest m [] shown = tt
 shown-of digest m (l ∷ ls) shown = (shown.0, shown-of digest m ls shown.1)
 
 pub all-shown : (digest : List ℕ → List ℕ) (m : Deciding) (ls : List LoadedCase) (cs : List CaseData) (starts : List Machine) (own_ends ends : List Ended) → map (λ (l : LoadedCase). data_of l.case.now) ls ≡ cs
-    → map (λ (l : LoadedCase). l.start) ls ≡ starts → own_ends ≡ map (ended_of digest) ls → ends ≡ own_ends → EndsAreShown m cs ends → AreAllShown digest m cs (map state_of starts)
+    → map (λ (l : LoadedCase). l.start) ls ≡ starts → own_ends ≡ map (ended_of_loaded digest) ls → ends ≡ own_ends → EndsAreShown m cs ends → AreAllShown digest m cs (map state_of starts)
 all-shown digest m ls cs starts own_ends ends cases_are starts_are own_are ends_are shown =
     subst (λ (ds : List CaseData). AreAllShown digest m ds (map state_of starts)) cases_are
     (subst (λ (ms : List Machine). AreAllShown digest m (map (λ (l : LoadedCase). data_of l.case.now) ls) (map state_of ms)) starts_are
@@ -135,30 +135,30 @@ pub record Starts (starts : List State) (i : ℕ) (c : CaseData) : Type 0 where
   pub start : State
   pub there : slice_get starts i ≡ Some start
   pub subject : Subject
-  pub loads : start_in subject c ≡ Ok start
+  pub loads : start_or_refusal subject c ≡ Ok start
 
 pub record FirstStarts (number : ℕ) (c : CaseData) (cs : List CaseData) (starts : List State) : Type 0 where
   pub first : State
   pub later : List State
-  pub loads : start_in (Task number) c ≡ Ok first
-  pub starts_later : starts_in (number + 1) cs ≡ Ok later
+  pub loads : start_or_refusal (Task number) c ≡ Ok first
+  pub starts_later : starts_or_refusal (number + 1) cs ≡ Ok later
   pub are : starts ≡ first ∷ later
 
-pub first-starts : (number : ℕ) (c : CaseData) (cs : List CaseData) (starts : List State) → starts_in number (c ∷ cs) ≡ Ok starts → FirstStarts number c cs starts
-unfolding starts_in
-first-starts number c cs starts is = by (start_in (Task number) c) (starts_in (number + 1) cs) refl refl is
+pub first-starts : (number : ℕ) (c : CaseData) (cs : List CaseData) (starts : List State) → starts_or_refusal number (c ∷ cs) ≡ Ok starts → FirstStarts number c cs starts
+unfolding starts_or_refusal
+first-starts number c cs starts is = by (start_or_refusal (Task number) c) (starts_or_refusal (number + 1) cs) refl refl is
   where
-    by : (r : Result State Response) (q : Result (List State) Response) → start_in (Task number) c ≡ r → starts_in (number + 1) cs ≡ q
+    by : (r : Result State Response) (q : Result (List State) Response) → start_or_refusal (Task number) c ≡ r → starts_or_refusal (number + 1) cs ≡ q
         → (r >>= (λ (s : State). q >>= (λ (ss : List State). Ok (s ∷ ss)))) ≡ Ok starts → FirstStarts number c cs starts
     by (Ok s) (Ok ss) one more both = record { first = s; later = ss; loads = one; starts_later = more; are = sym (cc both) }
     by (Ok s) (Err e) one more both = absurd (cc both)
     by (Err e) q one more both = absurd (cc both)
 
-pub start-at : (number : ℕ) (cs : List CaseData) (starts : List State) (i : ℕ) (c : CaseData) → starts_in number cs ≡ Ok starts → slice_get cs i ≡ Some c → Starts starts i c
+pub start-at : (number : ℕ) (cs : List CaseData) (starts : List State) (i : ℕ) (c : CaseData) → starts_or_refusal number cs ≡ Ok starts → slice_get cs i ≡ Some c → Starts starts i c
 start-at number [] starts i c is at = absurd (none-some c at)
 start-at number (d ∷ cs) starts zero c is at =
     let all = first-starts number d cs starts is in
-    record { start = all.first; there = ap (λ (l : List State). slice_get l 0) all.are; subject = Task number; loads = subst (λ (x : CaseData). start_in (Task number) x ≡ Ok all.first) (same_Some d c at) all.loads }
+    record { start = all.first; there = ap (λ (l : List State). slice_get l 0) all.are; subject = Task number; loads = subst (λ (x : CaseData). start_or_refusal (Task number) x ≡ Ok all.first) (same_Some d c at) all.loads }
 start-at number (d ∷ cs) starts (suc i) c is at =
     let all = first-starts number d cs starts is in
     let more = start-at (number + 1) cs all.later i c all.starts_later at in
@@ -166,8 +166,8 @@ start-at number (d ∷ cs) starts (suc i) c is at =
 
 -- there is one for each
 
-pub starts-count : (number : ℕ) (cs : List CaseData) (starts : List State) → starts_in number cs ≡ Ok starts → length starts ≡ length cs
-unfolding starts_in
+pub starts-count : (number : ℕ) (cs : List CaseData) (starts : List State) → starts_or_refusal number cs ≡ Ok starts → length starts ≡ length cs
+unfolding starts_or_refusal
 starts-count number [] starts is = (let none : [] ≡ starts = cc is in ap length (sym none))
 starts-count number (c ∷ cs) starts is =
     let all = first-starts number c cs starts is in
@@ -190,7 +190,7 @@ text-at (q ∷ rs) zero r at = ap (λ (x : Response). Some x.text) (same_Some q 
 text-at (q ∷ rs) (suc i) r at = text-at rs i r at
 
 -- so a text of tasks has a part for each, and that of a task stands under its line
-pub decided-stands : (m : Deciding) (cs : List CaseData) (starts : List State) (t : ℕ) (c : CaseData) (start : State) → starts_in 1 cs ≡ Ok starts
+pub decided-stands : (m : Deciding) (cs : List CaseData) (starts : List State) (t : ℕ) (c : CaseData) (start : State) → starts_or_refusal 1 cs ≡ Ok starts
     → slice_get cs (t - 1) ≡ Some c → slice_get starts (t - 1) ≡ Some start → StandsUnder (length cs) t (response_to_case m c start).text (together (responses_to_cases m cs starts)).text
 decided-stands m cs starts t c start loads at from = record {
   parts = texts_in (responses_to_cases m cs starts);
@@ -202,14 +202,14 @@ decided-stands m cs starts t c start loads at from = record {
 -- the machines of tasks, one after another
 
 pub none-started : (number : ℕ) (before : List Machine) → AreStarted number [] before before
-unfolding starts_in
+unfolding starts_or_refusal
 none-started number before =
     record { added = []; are = sym (append-nil before); starts = refl; count = refl; fresh = All-nil IsFreshStart; in_range = tt }
 
-pub more-started : (number : ℕ) (c : CaseData) (cs : List CaseData) (start : Machine) (before middle now : List Machine) → start_in (Task number) c ≡ Ok (state_of start)
+pub more-started : (number : ℕ) (c : CaseData) (cs : List CaseData) (start : Machine) (before middle now : List Machine) → start_or_refusal (Task number) c ≡ Ok (state_of start)
     → IsFreshStart start → IsInRange c (state_of start) → middle ≡ before ++ start ∷ []
     → AreStarted (number + 1) cs middle now → AreStarted number (c ∷ cs) before now
-unfolding starts_in
+unfolding starts_or_refusal
 more-started number c cs start before middle now loads fresh range pushed later = record {
   added = start ∷ later.added;
   are = later.are ∙ (ap (λ (l : List Machine). l ++ later.added) pushed ∙ append_assoc before (start ∷ []) later.added);
@@ -219,13 +219,13 @@ more-started number c cs start before middle now loads fresh range pushed later 
   in_range = (range, later.in_range);
 }
 
-pub first-refused : (number : ℕ) (c : CaseData) (cs : List CaseData) (response : Response) → start_in (Task number) c ≡ Err response → starts_in number (c ∷ cs) ≡ Err response
-unfolding starts_in
+pub first-refused : (number : ℕ) (c : CaseData) (cs : List CaseData) (response : Response) → start_or_refusal (Task number) c ≡ Err response → starts_or_refusal number (c ∷ cs) ≡ Err response
+unfolding starts_or_refusal
 first-refused number c cs response refused = stops _ _ _ refused
 
-pub later-refused : (number : ℕ) (c : CaseData) (cs : List CaseData) (start : State) (response : Response) → start_in (Task number) c ≡ Ok start → starts_in (number + 1) cs ≡ Err response
-    → starts_in number (c ∷ cs) ≡ Err response
-unfolding starts_in
+pub later-refused : (number : ℕ) (c : CaseData) (cs : List CaseData) (start : State) (response : Response) → start_or_refusal (Task number) c ≡ Ok start → starts_or_refusal (number + 1) cs ≡ Err response
+    → starts_or_refusal number (c ∷ cs) ≡ Err response
+unfolding starts_or_refusal
 later-refused number c cs start response loads refused = goes_on _ _ _ loads ∙ stops _ _ _ refused
 
 -- a pattern of the first element and the rest, and of none
@@ -247,21 +247,21 @@ pub adds-none : (number : ℕ) (cases : List CaseOf) (before : List Machine) →
 adds-none number cases before short = subst (λ (l : List CaseOf). AreStarted number (map data_of l) before before) (sym (short-none cases short)) (none-started number before)
 
 pub adds-more : (number : ℕ) (cs : List CaseData) (c : CaseData) (later : List CaseData) (start : Machine) (before middle now : List Machine) (r : Result (Unit {0}) Stop) → cs ≡ c ∷ later
-    → start_in (Task number) c ≡ Ok (state_of start) → IsFreshStart start → IsInRange c (state_of start) → middle ≡ before ++ start ∷ []
+    → start_or_refusal (Task number) c ≡ Ok (state_of start) → IsFreshStart start → IsInRange c (state_of start) → middle ≡ before ++ start ∷ []
     → AddsStarts (number + 1) later middle now r → AddsStarts number cs before now r
 adds-more number cs c later start before middle now (Ok done) are loads fresh range pushed rest =
     subst (λ (l : List CaseData). AreStarted number l before now) (sym are) (more-started number c later start before middle now loads fresh range pushed rest)
 adds-more number cs c later start before middle now (Err stop) are loads fresh range pushed rest = λ response is.
-    subst (λ (l : List CaseData). starts_in number l ≡ Err response) (sym are) (later-refused number c later (state_of start) response loads (rest response is))
+    subst (λ (l : List CaseData). starts_or_refusal number l ≡ Err response) (sym are) (later-refused number c later (state_of start) response loads (rest response is))
 
-pub adds-first-refused : (number : ℕ) (cs : List CaseData) (c : CaseData) (later : List CaseData) (response : Response) → cs ≡ c ∷ later → start_in (Task number) c ≡ Err response
-    → starts_in number cs ≡ Err response
-adds-first-refused number cs c later response are refused = subst (λ (l : List CaseData). starts_in number l ≡ Err response) (sym are) (first-refused number c later response refused)
+pub adds-first-refused : (number : ℕ) (cs : List CaseData) (c : CaseData) (later : List CaseData) (response : Response) → cs ≡ c ∷ later → start_or_refusal (Task number) c ≡ Err response
+    → starts_or_refusal number cs ≡ Err response
+adds-first-refused number cs c later response are refused = subst (λ (l : List CaseData). starts_or_refusal number l ≡ Err response) (sym are) (first-refused number c later response refused)
 
 -- what is written of tasks that are decided
 
 pub told-together : (digest : List ℕ → List ℕ) (m : Deciding) (ls : List LoadedCase) (cs : List CaseData) (starts : List Machine) (own_ends ends : List Ended) (answered : Answered) (before out text : List ℕ)
-    → map (λ (l : LoadedCase). data_of l.case.now) ls ≡ cs → map (λ (l : LoadedCase). l.start) ls ≡ starts → own_ends ≡ map (ended_of digest) ls → ends ≡ own_ends → before ≡ []
+    → map (λ (l : LoadedCase). data_of l.case.now) ls ≡ cs → map (λ (l : LoadedCase). l.start) ls ≡ starts → own_ends ≡ map (ended_of_loaded digest) ls → ends ≡ own_ends → before ≡ []
     → out ≡ before ++ task_texts 1 (texts_in (responses m cs ends)) → answered ≡ gravest (responses m cs ends) → text ≡ out
     → record { answered = answered; text = text } ≡ together (responses_by digest m cs (map state_of starts))
 told-together digest m ls cs starts own_ends ends answered before out text cases_are starts_are own_are ends_are none written gravest_is text_is =

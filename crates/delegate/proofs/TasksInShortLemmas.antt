@@ -11,7 +11,7 @@ use Rattle.case_reader.specs.Case.{CaseData, tree_of}
 use Rattle.image_reader.specs.Image.{Image}
 use Rattle.case_reader.specs.declared.case.Format.{Format}
 use Rattle.case_reader.specs.declared.case.Format.TheVariants.{Flat, Elf, Asm}
-use Rattle.case_reader.specs.Fields.{has_tasks, array_in}
+use Rattle.case_reader.specs.Fields.{has_tasks, array_field}
 use Rattle.case_reader.specs.Tasks.{TasksData, Many, tasks_in, many_of, one_of, tasks_at}
 use Rattle.case_reader.specs.declared.fault.CaseFault.TheVariants.{NotJson}
 use Rattle.case_reader.specs.declared.fault.TaskFault.{TaskFault}
@@ -24,7 +24,7 @@ use Rattle.digest_core.specs.Name.{digest_of}
 use Rattle.delegate.specs.Answered.{status_number}
 use Rattle.case_match.specs.Match.{start_root, record_of_case, verdict_of_record}
 use Rattle.delegate.specs.Decided.{written_as, tasks_for, match_head, balances_in, response_to_case, responses_to_cases}
-use Rattle.delegate.specs.Loading.{image_by, start_in, starts_in}
+use Rattle.delegate.specs.Loading.{image_by, start_or_refusal, starts_or_refusal}
 use Rattle.delegate.specs.Refusal.{or_refusal, task_refusal, image_refusal, asm_refusal}
 use Rattle.delegate.specs.commands.Judge.{judging}
 use Rattle.delegate.specs.Headline.{AreTasks}
@@ -46,8 +46,8 @@ image-is subject Flat file image is = ap (or_refusal (image_refusal subject)) is
 image-is subject Elf file image is = ap (or_refusal (image_refusal subject)) is
 image-is subject Asm file image is = ap (or_refusal (asm_refusal subject)) is
 
-pub start-is : (subject : Subject) (c : CaseData) (start : State) → IsStartOf IsImageOf c start → start_in subject c ≡ Ok start
-unfolding start_in
+pub start-is : (subject : Subject) (c : CaseData) (start : State) → IsStartOf IsImageOf c start → start_or_refusal subject c ≡ Ok start
+unfolding start_or_refusal
 start-is subject c start is = goes_on _ _ _ (image-is subject c.format c.image is.image is.loads) ∙ ap Ok (sym is.is)
 
 -- TASKS OF THE BYTES ARE THOSE THAT ARE ASKED FOR
@@ -67,7 +67,7 @@ tree-tasks many one has cs key (Some d) is =
     ap (λ (b : Bool). if b then many d else one d) (key d reads) ∙ reads
 
 tasks-at : (bytes : List ℕ) (cs : List CaseData) → option_map many_of (tree_of bytes) ≡ Some (Ok (Many cs)) → tasks_at bytes ≡ Ok (Many cs)
-unfolding tasks_at many_of tasks_in array_in
+unfolding tasks_at many_of tasks_in array_field
 tasks-at bytes cs is = tree-tasks many_of one_of has_tasks cs (λ d reads. there _ _ _ _ _ _ _ reads) (tree_of bytes) is
 
 tasks-are : (asked : MatchText) (bytes : List ℕ) (cs : List CaseData) → AreTasksOf IsImageOf bytes cs → tasks_for (written_as asked) bytes ≡ Ok (Many cs)
@@ -79,10 +79,10 @@ Loads c = (start : State) × IsStartOf IsImageOf c start
 -- their images load, so that their runs start
 pub record AllStart (number : ℕ) (cs : List CaseData) : Type 0 where
   pub starts : List State
-  pub are : starts_in number cs ≡ Ok starts
+  pub are : starts_or_refusal number cs ≡ Ok starts
 
 starts-are : (number : ℕ) (cs : List CaseData) → All Loads cs → AllStart number cs
-unfolding starts_in
+unfolding starts_or_refusal
 starts-are number [] load = record { starts = []; are = refl }
 starts-are number (c ∷ cs) load =
     let one : Loads c = All-head Loads c cs load in
@@ -96,15 +96,15 @@ part-ends name final status text (inl accepts) = inl accepts.last
 part-ends name final status text (inr collides) = inr collides.shows
 
 -- that of one task, whose run starts in the state that was loaded
-one-ends : HeadlineInShort → (asked : MatchText) (name : DigestName) (subject : Subject) (c : CaseData) (s : State) → start_in subject c ≡ Ok s → IsPlayed (judging asked name) c s
+one-ends : HeadlineInShort → (asked : MatchText) (name : DigestName) (subject : Subject) (c : CaseData) (s : State) → start_or_refusal subject c ≡ Ok s → IsPlayed (judging asked name) c s
     → TaskEnds IsImageOf name (c, (response_to_case (judging asked name) c s).text)
 one-ends short asked name subject c s loads played start starts contains =
-    let same : s ≡ start = same-ok (start_in subject c) s start loads (start-is subject c start starts) in
+    let same : s ≡ start = same-ok (start_or_refusal subject c) s start loads (start-is subject c start starts) in
     subst (λ (x : State). HasLastLine (accepting (state_at x c.bound)) (response_to_case (judging asked name) c s).text ⊎ ShowsTwoStrings name (response_to_case (judging asked name) c s).text) same
     (part-ends name (state_at s c.bound) (status_number (response_to_case (judging asked name) c s).answered) (response_to_case (judging asked name) c s).text
     (short asked name c s played.range played.strings contains))
 
-all-end : HeadlineInShort → (asked : MatchText) (name : DigestName) (number : ℕ) (cs : List CaseData) (starts : List State) → starts_in number cs ≡ Ok starts
+all-end : HeadlineInShort → (asked : MatchText) (name : DigestName) (number : ℕ) (cs : List CaseData) (starts : List State) → starts_or_refusal number cs ≡ Ok starts
     → AreAllPlayed (judging asked name) cs starts → All (TaskEnds IsImageOf name) (zip cs (texts_in (responses_to_cases (judging asked name) cs starts)))
 all-end short asked name number [] starts loads played = All-nil (TaskEnds IsImageOf name)
 all-end short asked name number (c ∷ cs) starts loads played =

@@ -45,7 +45,7 @@ use Rattle.delegate.proofs.OutcomeLemmas.{of_command, outcome-of}
 use Rattle.delegate.proofs.KindLemmas.{untaken}
 use Rattle.delegate.proofs.TaskLemmas.{gravest-is}
 use Rattle.delegate.proofs.ResponseLemmas.{OfCases, OfTexts, OfCommand, command-of}
-use Rattle.image_reader.specs.Fault.{rule_of}
+use Rattle.image_reader.specs.Fault.{image_rule}
 
 abbrev SaysWhy : Response → Type 0
 SaysWhy r = is_refusal r.answered ≡ true → r.text ≢ []
@@ -118,7 +118,7 @@ elf-free file =
     (test-free _ images.SegmentsOverlap _ (λ e. cc e) (ok-free tt)))))
     (λ checked. test-free _ images.EntryMisaligned _ (λ e. cc e) (ok-free _))))
 
-rule-why : (subject : Subject) (fault : ImageFault) → fault ≢ images.Memory → rule_text subject (rule_of fault) ≢ []
+rule-why : (subject : Subject) (fault : ImageFault) → fault ≢ images.Memory → rule_text subject (image_rule fault) ≢ []
 rule-why subject images.Short other = λ e. cc e
 rule-why subject images.NotElf32Le other = λ e. cc e
 rule-why subject images.NotExecutable other = λ e. cc e

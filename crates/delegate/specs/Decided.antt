@@ -22,7 +22,7 @@ use Rattle.workload.specs.Workload.{big_data}
 use Rattle.command_line.specs.declared.request.MatchText.{MatchText}
 use Rattle.command_line.specs.declared.request.MatchText.TheVariants.{Report, Full}
 use Rattle.case_match.specs.Match.{start_root, record_of_case, verdict_of_record}
-use Rattle.delegate.specs.Loading.{within_limit, case_in, tasks_in}
+use Rattle.delegate.specs.Loading.{within_limit, case_or_refusal, tasks_or_refusal}
 use Rattle.delegate.specs.declared.response.Response.{Response}
 use Rattle.delegate.specs.declared.response.Answered.{Answered}
 use Rattle.delegate.specs.declared.response.Answered.TheVariants as answered
@@ -30,32 +30,32 @@ use Rattle.digest_core.specs.Name.{digest_of}
 use Rattle.delegate.specs.Answered.{graver}
 
 -- which text is written
-pub data Written : Type 0 where
+pub data WhichText : Type 0 where
   -- the report of the case that is read
-  report : Written
+  report : WhichText
   -- its full text
-  full : Written
+  full : WhichText
   -- the summary of the large workload of a seed
-  summary : ℕ → Written
+  summary : ℕ → WhichText
 
 -- by `judge`
-abbrev pub written_as : MatchText → Written
+abbrev pub written_as : MatchText → WhichText
 written_as Report = report
 written_as Full = full
 
 -- what a command that decides a match is asked for: the digest of the match's commitments, and the text
 pub record Deciding : Type 0 where
   pub digest : DigestName
-  pub written : Written
+  pub written : WhichText
 
 -- the case of the bytes, which are not too many
 abbrev pub case_within_limit : List ℕ → Result CaseData Response
 case_within_limit bytes = do
   given ← within_limit bytes
-  case_in given
+  case_or_refusal given
 
 -- the case of the match: that of the bytes, or the large workload of a seed, for which nothing is read
-unfoldable pub case_for : Written → List ℕ → Result CaseData Response
+unfoldable pub case_for : WhichText → List ℕ → Result CaseData Response
 case_for (summary seed) bytes = Ok (big_data seed)
 case_for report bytes = case_within_limit bytes
 case_for full bytes = case_within_limit bytes
@@ -64,10 +64,10 @@ case_for full bytes = case_within_limit bytes
 abbrev pub tasks_within_limit : List ℕ → Result TasksData Response
 tasks_within_limit bytes = do
   given ← within_limit bytes
-  tasks_in given
+  tasks_or_refusal given
 
 -- that of the bytes, or the large workload of a seed
-unfoldable pub tasks_for : Written → List ℕ → Result TasksData Response
+unfoldable pub tasks_for : WhichText → List ℕ → Result TasksData Response
 tasks_for (summary seed) bytes = Ok (One (big_data seed))
 tasks_for report bytes = tasks_within_limit bytes
 tasks_for full bytes = tasks_within_limit bytes
@@ -82,7 +82,7 @@ answered_by NoneLeft = answered.NoneLeft
 answered_by (Collision x y) = answered.Collision
 
 -- a report and a full text answer by the verdict, and a summary always with its line
-abbrev pub answered_for : Written → Verdict → Answered
+abbrev pub answered_for : WhichText → Verdict → Answered
 answered_for (summary seed) verdict = answered.Done
 answered_for report verdict = answered_by verdict
 answered_for full verdict = answered_by verdict
@@ -92,14 +92,14 @@ abbrev pub balances_in : CaseData → Record → Option Balances
 balances_in c settled = option_map (λ stake. balances_of stake (length c.provers) settled) c.stake
 
 -- the text of a match's head, record, balances and verdict. The balances are in the report alone.
-abbrev pub match_text : Written → Head → Record → Option Balances → Verdict → List ℕ
+abbrev pub match_text : WhichText → Head → Record → Option Balances → Verdict → List ℕ
 match_text (summary seed) head settled balances verdict = summary_text seed settled verdict
 match_text report head settled balances verdict = report_text head settled verdict balances
 match_text full head settled balances verdict = full_text head settled verdict
 
 -- the whole text that ends in this text of a verdict: before that stand the lines of the report or of the full text, or what a summary
 -- counts
-abbrev pub before_verdict : Written → Head → Record → Option Balances → List ℕ → List ℕ
+abbrev pub before_verdict : WhichText → Head → Record → Option Balances → List ℕ → List ℕ
 before_verdict (summary seed) head settled balances verdict_text =
     workload_text seed (length settled.claims) ++ (counts_text (length settled.disputes) (rounds_in settled.disputes) ++ (codes " " ++ verdict_text))
 before_verdict report head settled balances verdict_text = head_line head ++ (lines_text (lines_of_record settled) ++ (lines_text (lines_of_balances balances) ++ verdict_text))

@@ -22,7 +22,7 @@ use Rattle.case_match.specs.Match.{start_root, rules_of_case, record_of_case, ve
 use Rattle.case_match.specs.TruthfulInCase.{IsTruthfulInCase, IsInRange}
 use Rattle.digest_core.specs.Name.{digest_of}
 use Rattle.delegate.specs.Decided.{Deciding, case_for, tasks_for, answered_for, match_head, balances_in, before_verdict, response_to_case, together, responses_to_cases, StandsUnder}
-use Rattle.delegate.specs.Loading.{start_in, starts_in}
+use Rattle.delegate.specs.Loading.{start_or_refusal, starts_or_refusal}
 use Rattle.delegate.specs.Outcome.{decides}
 use Rattle.delegate.specs.declared.response.Subject.TheVariants.{Whole}
 use Rattle.delegate.specs.declared.response.Response.{Response}
@@ -50,14 +50,14 @@ are_moves_against p (m ∷ ms) = ((m.prover == p) && is_settled_against m.settle
 pub record IsCase (words : List (List ℕ)) (bytes : List ℕ) (m : Deciding) (c : CaseData) (start : State) : Type 0 where
   pub asked : option_and_then decides (chosen words) ≡ Some m
   pub reads : case_for m.written bytes ≡ Ok c
-  pub loads : start_in Whole c ≡ Ok start
+  pub loads : start_or_refusal Whole c ≡ Ok start
 
 -- the arguments ask for matches to be decided in this way, and for the bytes they are those of tasks with these cases, whose runs start
 -- in these states
 pub record AreTasks (words : List (List ℕ)) (bytes : List ℕ) (m : Deciding) (cs : List CaseData) (starts : List State) : Type 0 where
   pub asked : option_and_then decides (chosen words) ≡ Some m
   pub reads : tasks_for m.written bytes ≡ Ok (Many cs)
-  pub loads : starts_in 1 cs ≡ Ok starts
+  pub loads : starts_or_refusal 1 cs ≡ Ok starts
 
 -- IT IS NOT ELIMINATED: it is live at the end, with the true claim; its answers in each of its disputes are given and true;
 -- no line of the report or of the full text calls it faulty, spent or refuted; and if there are deposits it ends with its stake and one more

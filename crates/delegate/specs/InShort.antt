@@ -109,7 +109,7 @@ pub record Collides (name : DigestName) (status : ℕ) (text : List ℕ) : Type 
   pub shows : ShowsTwoStrings name text
 
 -- `run`: the status is 0, and the one line answers with the status and the output in this state
-pub record Answers (final : State) (status : ℕ) (text : List ℕ) : Type 0 where
+pub record AnswersWith (final : State) (status : ℕ) (text : List ℕ) : Type 0 where
   pub done : status ≡ 0
   pub line : text ≡ codes "answer " ++ (answer_text final.status final.output ++ codes "\n")
 
@@ -138,7 +138,7 @@ pub record Sentence (IsImage : ImageRule) (judges : DigestName → Type 0) (runs
   pub judge : (name : DigestName) (c : CaseData) (start : State) → judges name → IsCaseOf bytes c → IsStartOf IsImage c start → Contains c.provers honest →
       AcceptsOrCollides name (state_at start c.bound) status text
   pub judge_tasks : (name : DigestName) (cs : List CaseData) → judges name → AreTasksOf IsImage bytes cs → TasksEnd IsImage name cs text
-  pub run : (c : CaseData) (start : State) → runs → IsCaseOf bytes c → IsStartOf IsImage c start → Answers (state_at start c.bound) status text
+  pub run : (c : CaseData) (start : State) → runs → IsCaseOf bytes c → IsStartOf IsImage c start → AnswersWith (state_at start c.bound) status text
 
 -- the arguments, as `clap` takes them, ask for the match by a digest, and for either of its texts
 pub record AskForTheMatch (words : List (List ℕ)) (name : DigestName) : Type 0 where

@@ -20,12 +20,12 @@ abbrev pub within_limit : List ℕ → Result (List ℕ) Response
 within_limit bytes = if nat_lt 16777216 (length bytes) then Err too_long else Ok bytes
 
 -- the case of bytes
-abbrev pub case_in : List ℕ → Result CaseData Response
-case_in bytes = or_refusal (case_refusal Whole) (case_at bytes)
+abbrev pub case_or_refusal : List ℕ → Result CaseData Response
+case_or_refusal bytes = or_refusal (case_refusal Whole) (case_at bytes)
 
 -- the one case of bytes, or those of tasks
-abbrev pub tasks_in : List ℕ → Result TasksData Response
-tasks_in bytes = or_refusal task_refusal (tasks_at bytes)
+abbrev pub tasks_or_refusal : List ℕ → Result TasksData Response
+tasks_or_refusal bytes = or_refusal task_refusal (tasks_at bytes)
 
 -- the image of a file by its format, or what is wrong with it
 abbrev pub image_by : Subject → Format → List ℕ → Result Image Response
@@ -34,19 +34,19 @@ image_by subject Elf file = or_refusal (image_refusal subject) (elf_at file)
 image_by subject Asm text = or_refusal (asm_refusal subject) (asm_at text)
 
 -- the image of a case
-abbrev pub image_in : Subject → CaseData → Result Image Response
-image_in subject c = image_by subject c.format c.image
+abbrev pub image_or_refusal : Subject → CaseData → Result Image Response
+image_or_refusal subject c = image_by subject c.format c.image
 
 -- the state in which the run of a case starts, of its version
-unfoldable pub start_in : Subject → CaseData → Result State Response
-start_in subject c = do
-  image ← image_in subject c
+unfoldable pub start_or_refusal : Subject → CaseData → Result State Response
+start_or_refusal subject c = do
+  image ← image_or_refusal subject c
   Ok (started c.version image.memory image.entry c.input)
 
 -- the states in which the runs of tasks start, the first of which has this number
-unfoldable pub starts_in : ℕ → List CaseData → Result (List State) Response
-starts_in t [] = Ok []
-starts_in t (c ∷ cs) = do
-  start ← start_in (Task t) c
-  starts ← starts_in (t + 1) cs
+unfoldable pub starts_or_refusal : ℕ → List CaseData → Result (List State) Response
+starts_or_refusal t [] = Ok []
+starts_or_refusal t (c ∷ cs) = do
+  start ← start_or_refusal (Task t) c
+  starts ← starts_or_refusal (t + 1) cs
   Ok (start ∷ starts)

@@ -16,7 +16,7 @@ use Rattle.plain_answers.specs.Plain.{plain, plain_root}
 use Rattle.case_reader.specs.Case.{CaseData}
 use Rattle.case_match.specs.Match.{start_root}
 use Rattle.delegate.specs.Refusal.{usage}
-use Rattle.delegate.specs.Loading.{within_limit, case_in, start_in}
+use Rattle.delegate.specs.Loading.{within_limit, case_or_refusal, start_or_refusal}
 use Rattle.delegate.specs.Outcome.{either_way}
 use Rattle.delegate.specs.declared.response.Subject.TheVariants.{Whole}
 use Rattle.delegate.specs.declared.response.Response.{Response}
@@ -29,8 +29,8 @@ root_of_start start = record { answered = Done; text = (start_root sha256 start)
 -- of the case of bytes
 unfoldable pub start_response : List ℕ → Result Response Response
 start_response bytes = do
-  c ← case_in bytes
-  start ← start_in Whole c
+  c ← case_or_refusal bytes
+  start ← start_or_refusal Whole c
   Ok (root_of_start start)
 
 -- the response to these bytes, which may be too many, by what is answered to those that aren't
@@ -39,7 +39,7 @@ response_by answer bytes = either_way (within_limit bytes >>= answer)
 
 -- the start of a case that is read and loaded is a valid state
 abbrev pub StartsValid : List ℕ → Type 0
-StartsValid bytes = (c : CaseData) (start : State) → (within_limit bytes >>= case_in) ≡ Ok c → start_in Whole c ≡ Ok start → IsValid start
+StartsValid bytes = (c : CaseData) (start : State) → (within_limit bytes >>= case_or_refusal) ≡ Ok c → start_or_refusal Whole c ≡ Ok start → IsValid start
 
 -- a match with this bound may ask it: the claim, a root between the ends of the run, the roots at the cuts of an interval of it, or the proof
 -- of one of its steps
@@ -60,9 +60,9 @@ answer_of_run k c start = record { answered = Done; text = (wire_form (plain sha
 -- of the case of bytes
 unfoldable pub answer_response : Kind → List ℕ → Result Response Response
 answer_response k bytes = do
-  c ← case_in bytes
+  c ← case_or_refusal bytes
   asked ← within_match k c
-  start ← start_in Whole c
+  start ← start_or_refusal Whole c
   Ok (answer_of_run k c start)
 
 -- steps that the run doesn't have, which are above the bound, are refused like a question that no match asks
@@ -79,7 +79,7 @@ roots_of_steps steps c start = record { answered = Done; text = flat_map (λ i. 
 -- of the case of bytes
 unfoldable pub roots_at_response : List ℕ → List ℕ → Result Response Response
 roots_at_response steps bytes = do
-  c ← case_in bytes
+  c ← case_or_refusal bytes
   there ← within_run steps c
-  start ← start_in Whole c
+  start ← start_or_refusal Whole c
   Ok (roots_of_steps steps c start)

@@ -7,9 +7,9 @@ use Rattle.case_reader.specs.declared.fault.CaseFault.{CaseFault}
 use Rattle.case_reader.specs.declared.fault.CaseFault.TheVariants.{NotJson, NotObject, Missing, WrongType, BadHex, OutOfRange, BadProver, Memory}
 use Rattle.case_reader.specs.declared.fault.TaskFault.{TaskFault}
 use Rattle.case_reader.specs.declared.fault.TaskFault.TheVariants as tasks
-use Rattle.image_reader.specs.Fault.{rule_of}
+use Rattle.image_reader.specs.Fault.{image_rule}
 use Rattle.image_reader.specs.declared.fault.ImageFault.{ImageFault}
-use Rattle.rv_text.specs.Faults.{number_of}
+use Rattle.rv_text.specs.Faults.{number_of_kind}
 use Rattle.delegate.specs.declared.loading.AsmImageFault.{AsmImageFault}
 use Rattle.delegate.specs.declared.loading.AsmImageFault.TheVariants as asm
 use Rattle.delegate.specs.declared.response.Subject.{Subject}
@@ -60,12 +60,12 @@ rule_text subject (Some rule) = codes "fault " ++ (subject_text subject ++ (code
 rule_text subject None = []
 
 abbrev pub image_refusal : Subject → ImageFault → Response
-image_refusal subject fault = record { answered = answered.Image; text = rule_text subject (rule_of fault) }
+image_refusal subject fault = record { answered = answered.Image; text = rule_text subject (image_rule fault) }
 
 -- what is wrong with an assembly text: its fault, by kind and line, or the rule of images that its words break
 abbrev pub asm_fault_text : Subject → AsmImageFault → List ℕ
-asm_fault_text subject (asm.Text fault) = codes "fault " ++ (subject_text subject ++ (codes "image 12 " ++ (decimal (number_of fault.kind) ++ (codes " " ++ (decimal fault.line ++ codes "\n")))))
-asm_fault_text subject (asm.Image fault) = rule_text subject (rule_of fault)
+asm_fault_text subject (asm.Text fault) = codes "fault " ++ (subject_text subject ++ (codes "image 12 " ++ (decimal (number_of_kind fault.kind) ++ (codes " " ++ (decimal fault.line ++ codes "\n")))))
+asm_fault_text subject (asm.Image fault) = rule_text subject (image_rule fault)
 asm_fault_text subject asm.Memory = []
 
 abbrev pub asm_refusal : Subject → AsmImageFault → Response

@@ -10,7 +10,7 @@ use Rattle.case_reader.specs.Tasks.{TasksData, One, Many}
 use Rattle.command_line.specs.Words.{chosen}
 use Rattle.command_line.specs.declared.request.Command.{Command}
 use Rattle.case_match.specs.TruthfulInCase.{IsInRange}
-use Rattle.delegate.specs.Loading.{case_in, start_in, starts_in}
+use Rattle.delegate.specs.Loading.{case_or_refusal, start_or_refusal, starts_or_refusal}
 use Rattle.case_match.specs.Match.{record_of_case, verdict_of_record}
 use Rattle.case_match.specs.Openings.{IsFresh}
 use Rattle.transcript_text.specs.MoveLists.{moves_of}
@@ -62,13 +62,13 @@ AreAllPlayed m (c ∷ cs) [] = Unit {0}
 AreAllPlayed m (c ∷ cs) (start ∷ starts) = IsPlayed m c start × AreAllPlayed m cs starts
 
 -- so of a case that was read, if it is loaded; and of those of tasks
-abbrev pub AreInRange : Deciding → TasksData → Type 0
-AreInRange m (One c) = (start : State) → start_in Whole c ≡ Ok start → IsPlayed m c start
-AreInRange m (Many cs) = (starts : List State) → starts_in 1 cs ≡ Ok starts → AreAllPlayed m cs starts
+abbrev pub AreInRangeOnceLoaded : Deciding → TasksData → Type 0
+AreInRangeOnceLoaded m (One c) = (start : State) → start_or_refusal Whole c ≡ Ok start → IsPlayed m c start
+AreInRangeOnceLoaded m (Many cs) = (starts : List State) → starts_or_refusal 1 cs ≡ Ok starts → AreAllPlayed m cs starts
 
 -- what is read here, if there is anything, is in range
 abbrev pub AreInRangeIfThere : Deciding → Result TasksData Response → Type 0
-AreInRangeIfThere m reading = (tasks : TasksData) → reading ≡ Ok tasks → AreInRange m tasks
+AreInRangeIfThere m reading = (tasks : TasksData) → reading ≡ Ok tasks → AreInRangeOnceLoaded m tasks
 
 -- so is what a command reads that decides
 abbrev pub DecidesInRange : Command → List ℕ → Type 0
@@ -82,7 +82,7 @@ CasesAreInRange words bytes = (m : Deciding) → option_and_then decides (chosen
 pub record AreStarted (number : ℕ) (cs : List CaseData) (before now : List Machine) : Type 0 where
   pub added : List Machine
   pub are : now ≡ before ++ added
-  pub starts : starts_in number cs ≡ Ok (map state_of added)
+  pub starts : starts_or_refusal number cs ≡ Ok (map state_of added)
   pub count : length added ≡ length cs
   pub fresh : All IsFreshStart added
   pub in_range : AreAllInRange cs (map state_of added)
@@ -90,7 +90,7 @@ pub record AreStarted (number : ℕ) (cs : List CaseData) (before now : List Mac
 -- they are added, or the refusal is that of the definition, unless memory ran out
 abbrev pub AddsStarts : ℕ → List CaseData → List Machine → List Machine → Result (Unit {0}) Stop → Type 0
 AddsStarts number cs before now (Ok done) = AreStarted number cs before now
-AddsStarts number cs before now (Err stop) = (response : Response) → stop ≡ Refused response → starts_in number cs ≡ Err response
+AddsStarts number cs before now (Err stop) = (response : Response) → stop ≡ Refused response → starts_or_refusal number cs ≡ Err response
 
 -- the responses to tasks, from their cases and what came of their matches
 abbrev pub responses : Deciding → List CaseData → List Ended → List Response
@@ -100,7 +100,7 @@ responses m (c ∷ cs) (end ∷ ends) = response_of m c end.setup.start end.matc
 
 -- what is shown of a match that has ended so: a collision is of strings of bytes, and if its full text is written each of its answers has a
 -- wire form
-pub record IsShown (m : Deciding) (settled : Record) (verdict : Verdict) : Type 0 where
+pub record EndIsShown (m : Deciding) (settled : Record) (verdict : Verdict) : Type 0 where
   pub strings : AreByteStrings verdict
   pub written : m.written ≡ full → AreWritten (moves_of settled)
 
@@ -108,14 +108,14 @@ pub record IsShown (m : Deciding) (settled : Record) (verdict : Verdict) : Type 
 abbrev pub EndsAreShown : Deciding → List CaseData → List Ended → Type 0
 EndsAreShown m [] ends = Unit {0}
 EndsAreShown m (c ∷ cs) [] = Unit {0}
-EndsAreShown m (c ∷ cs) (end ∷ ends) = IsShown m end.match_record end.verdict × EndsAreShown m cs ends
+EndsAreShown m (c ∷ cs) (end ∷ ends) = EndIsShown m end.match_record end.verdict × EndsAreShown m cs ends
 
 -- of the matches of these cases, whose runs start in these states, by a digest function
 abbrev pub AreAllShown : (List ℕ → List ℕ) → Deciding → List CaseData → List State → Type 0
 AreAllShown digest m [] starts = Unit {0}
 AreAllShown digest m (c ∷ cs) [] = Unit {0}
 AreAllShown digest m (c ∷ cs) (start ∷ starts) =
-    IsShown m (record_of_case digest c start) (verdict_of_record digest c start (record_of_case digest c start)) × AreAllShown digest m cs starts
+    EndIsShown m (record_of_case digest c start) (verdict_of_record digest c start (record_of_case digest c start)) × AreAllShown digest m cs starts
 
 -- the records of these cases may be paid
 abbrev pub CanBePaid : List CaseData → List Ended → Type 0
@@ -129,4 +129,4 @@ IsAscending xs = (i j : ℕ) → i ≤ j → j < length xs → slice_index xs i 
 
 -- the start of the case of bytes that aren't too many is a valid state
 abbrev pub StartsValidIn : List ℕ → Type 0
-StartsValidIn bytes = (c : CaseData) (start : State) → case_in bytes ≡ Ok c → start_in Whole c ≡ Ok start → IsValid start
+StartsValidIn bytes = (c : CaseData) (start : State) → case_or_refusal bytes ≡ Ok c → start_or_refusal Whole c ≡ Ok start → IsValid start

@@ -42,8 +42,8 @@ words_given (Ok words) = Some (texts words.items)
 words_given (Err error) = given_after (error_kind error)
 
 -- a status with which a whole text is written
-abbrev pub is_whole : ℕ → Bool
-is_whole status = not (status == 5 || status == 6 || status == 9)
+abbrev pub is_written_whole : ℕ → Bool
+is_written_whole status = not (status == 5 || status == 6 || status == 9)
 
 -- a status with which the source was read to its end, if the arguments name a command that reads
 abbrev pub is_read_whole : ℕ → Bool

@@ -1,6 +1,6 @@
 //! The responses to what is refused.
 ghost use Rattle.std.specs.Prelude.{◌≡◌, IfOk, string_bytes};
-ghost use Rattle.image_reader.specs.Fault.{rule_of};
+ghost use Rattle.image_reader.specs.Fault.{image_rule};
 ghost use Rattle.delegate.specs.Refusal.{usage, too_long, case_fault_text, case_refusal, task_refusal, image_refusal, asm_refusal, rule_text};
 
 use crate::loading::AsmImageFault;
@@ -78,7 +78,7 @@ pub fn image_refusal(
 
 /// The text about a rule of images that is broken; it is empty if the fault is `Memory`.
 fn rule_text(alloc: Global, subject: Subject, fault: ImageFault) -> Result<String, AllocError>
-    ensures { IfOk result (λ text. string_bytes text ≡ rule_text subject (rule_of fault)) }
+    ensures { IfOk result (λ text. string_bytes text ≡ rule_text subject (image_rule fault)) }
 {
     match fault.rule() {
         Some(rule) => Ok(format!(in alloc; "fault {subject}image {rule}\n")?),

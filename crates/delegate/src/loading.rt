@@ -9,7 +9,7 @@ ghost use Rattle.case_reader.specs.Tasks.{tasks_data, AreFew};
 ghost use Rattle.image_reader.specs.Image.{loaded_of};
 ghost use Rattle.case_match.specs.TruthfulInCase.{IsInRange};
 ghost use Rattle.delegate.specs.AsmImage.{bytes_of as bytes_of_words, words_at, asm_words, asm_at};
-ghost use Rattle.delegate.specs.Loading.{case_in, tasks_in, image_by, image_in, start_in, starts_in};
+ghost use Rattle.delegate.specs.Loading.{case_or_refusal, tasks_or_refusal, image_by, image_or_refusal, start_or_refusal, starts_or_refusal};
 ghost use Rattle.delegate.specs.Standing.{Stands, IsFreshStart, AreAllInRange, AddsStarts};
 
 use crate::faults;
@@ -34,7 +34,7 @@ pub enum AsmImageFault {
 
 /// The case of the bytes.
 pub fn case_in(alloc: Global, bytes: Vec<u8>) -> Result<Case, Stop>
-    ensures { Stands data_of result (case_in bytes.items) }
+    ensures { Stands data_of result (case_or_refusal bytes.items) }
 {
     match read_case(alloc, bytes.as_slice()) {
         Ok(case) => Ok(case),
@@ -45,7 +45,7 @@ pub fn case_in(alloc: Global, bytes: Vec<u8>) -> Result<Case, Stop>
 
 /// What the bytes hold: one case, or those of tasks.
 pub fn tasks_in(alloc: Global, bytes: Vec<u8>) -> Result<Tasks, Stop>
-    ensures stands { Stands tasks_data result (tasks_in bytes.items) }
+    ensures stands { Stands tasks_data result (tasks_or_refusal bytes.items) }
     ensures few { IfOk result AreFew }
 {
     match read_tasks(alloc, bytes.as_slice()) {
@@ -152,7 +152,7 @@ fn asm_image(alloc: Global, subject: Subject, text: &[u8]) -> Result<Loaded, Sto
 
 /// The image of the case, loaded.
 fn image_in(alloc: Global, subject: Subject, case: &Case) -> Result<Loaded, Stop>
-    ensures { Stands loaded_of result (image_in subject (data_of case.now)) }
+    ensures { Stands loaded_of result (image_or_refusal subject (data_of case.now)) }
 {
     let file = case.image.as_slice();
     match case.format {
@@ -164,9 +164,9 @@ fn image_in(alloc: Global, subject: Subject, case: &Case) -> Result<Loaded, Stop
 
 /// The machine in which the run of the case starts, of the case's version. It is fresh: it has no output, and its chain is that of no
 /// output by every digester. A refusal names this subject.
-#[tactic(auto, unfolding(crate::specs::Loading::start_in))]
+#[tactic(auto, unfolding(crate::specs::Loading::start_or_refusal))]
 pub fn start_in(alloc: Global, subject: Subject, case: &Case) -> Result<Machine, Stop>
-    ensures stands { Stands state_of result (start_in subject (data_of case.now)) }
+    ensures stands { Stands state_of result (start_or_refusal subject (data_of case.now)) }
     ensures fresh { IfOk result IsFreshStart }
     ensures in_range { IfOk result (λ start. IsInRange (data_of case.now) (state_of start)) }
 {
@@ -181,7 +181,7 @@ pub fn start_in(alloc: Global, subject: Subject, case: &Case) -> Result<Machine,
 /// refused, of its task.
 pub fn starts_in(alloc: Global, cases: &[Case]) -> Result<Vec<Machine>, Stop>
     requires { length cases.now ≤ 8 }
-    ensures stands { Stands (λ starts. map state_of starts.items) result (starts_in 1 (map data_of cases.now)) }
+    ensures stands { Stands (λ starts. map state_of starts.items) result (starts_or_refusal 1 (map data_of cases.now)) }
     ensures count { IfOk result (λ starts. length starts.items ≡ length cases.now) }
     ensures fresh { IfOk result (λ starts. All IsFreshStart starts.items) }
     ensures in_range { IfOk result (λ starts. AreAllInRange (map data_of cases.now) (map state_of starts.items)) }

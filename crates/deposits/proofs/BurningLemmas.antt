@@ -19,14 +19,14 @@ use Rattle.tournament.specs.Theorem.{is_out_by_claim, lives}
 use Rattle.tournament.specs.Undecided.{is_collision, PutsOutOrCollides, AllPutOutOrCollide, DisputesPutOutOrCollide}
 use Rattle.deposits.specs.declared.amounts.Balances.{Balances}
 use Rattle.deposits.specs.Events.{outs, wins, spent, AllEventsOf, claim_events, and_closed, dispute_events, events_of}
-use Rattle.deposits.specs.Accounts.{Accounts, opened, after, CanTellAll}
+use Rattle.deposits.specs.Accounts.{Accounts, staked, all_told, CanTellAll}
 use Rattle.deposits.specs.Balances.{losses_of, claims_out, balance, balances_from, AllSides, IsSettledUp}
 use Rattle.deposits.specs.Burning.{losers_by, losers_in, burned_amount, kept_stake, kept_stakes_from, balances_if_burned, and_burned, burn_events, burn_events_of, BurnedAddUp, StagesBurn, RoundsBurn, kept_by_others_from, OthersPayForStages, between_from, BetweenBurns, FirstIsPaidForStages}
 use Rattle.deposits.specs.ExactBalance.{HasWonAll, WhoLivesWinsAll, collisions_among}
 use Rattle.deposits.specs.Theorem.{LedgersAddUp, BalancesAddUp, EndedIsSettledUp}
 use Rattle.deposits.proofs.StepLemmas.{other-test, two-cells}
 use Rattle.deposits.proofs.OrderLemmas.{of_by, accounts_by, accounts-by-same, IsClosedForm, closed-form}
-use Rattle.deposits.proofs.RecordLemmas.{outs-append, wins-append, spent-append, all-append, claims-wins, claims-spent, claims-events, record-outs, balances-same, can-both, after-both}
+use Rattle.deposits.proofs.RecordLemmas.{outs-append, wins-append, spent-append, all-append, claims-wins, claims-spent, claims-events, record-outs, balances-same, can-both, all_told-both}
 
 -- THE EVENTS: each loser of a dispute is out as by its claim
 
@@ -125,30 +125,30 @@ of-kept s r p zero = refl
 of-kept s r p (suc n) = two-cells _ _ _ _ (kept-by s (lives r p)) (of-kept s r (p + 1) n)
 
 record IsBurned (s n : ℕ) (r : Record) : Type 0 where
-  can : CanTellAll (burn_events_of r) (opened s n)
-  of : (after (burn_events_of r) (opened s n)).of ≡ kept_stakes_from s r 1 n
-  pool : (after (burn_events_of r) (opened s n)).pool ≡ burned_amount s r
+  can : CanTellAll (burn_events_of r) (staked s n)
+  of : (all_told (burn_events_of r) (staked s n)).of ≡ kept_stakes_from s r 1 n
+  pool : (all_told (burn_events_of r) (staked s n)).pool ≡ burned_amount s r
 
 record-burned : (s n : ℕ) (r : Record) → IsSettledUp n r → IsBurned s n r
 record-burned s n r i =
     let once : (p : ℕ) → outs (burn_events_of r) p ≤ 1 = λ p. rw (burn-outs n p r i) (i.once p) in
     let c : IsClosedForm s n (burn_events_of r) = closed-form s n (burn_events_of r) (burn-events n r i) once in
-    let all : after (burn_events_of r) (opened s n) ≡ accounts_by s n (λ q. 0) (losses_of r) (claims_out r.claims + losers_in r.disputes) =
+    let all : all_told (burn_events_of r) (staked s n) ≡ accounts_by s n (λ q. 0) (losses_of r) (claims_out r.claims + losers_in r.disputes) =
     c.is ∙ accounts-by-same s n _ _ _ _ _ _ (λ p some few. burn-wins p r) (λ p some few. burn-outs n p r i ∙ record-outs n r p i some) (burn-spent r) in
     record { can = c.can; of = ap (λ (a : Accounts). a.of) all ∙ of-kept s r 1 n; pool = ap (λ (a : Accounts). a.pool) all }
 
 -- THE CALL
 
-pub burn-claims-can : (s n : ℕ) (r : Record) → IsSettledUp n r → CanTellAll (claim_events 1 r.claims) (opened s n)
-burn-claims-can s n r i = (can-both (claim_events 1 r.claims) (burn_events r.disputes) (opened s n) (record-burned s n r i).can).0
+pub burn-claims-can : (s n : ℕ) (r : Record) → IsSettledUp n r → CanTellAll (claim_events 1 r.claims) (staked s n)
+burn-claims-can s n r i = (can-both (claim_events 1 r.claims) (burn_events r.disputes) (staked s n) (record-burned s n r i).can).0
 
-pub burn-losers-can : (s n : ℕ) (r : Record) → IsSettledUp n r → CanTellAll (burn_events r.disputes) (after (claim_events 1 r.claims) (opened s n))
-burn-losers-can s n r i = (can-both (claim_events 1 r.claims) (burn_events r.disputes) (opened s n) (record-burned s n r i).can).1
+pub burn-losers-can : (s n : ℕ) (r : Record) → IsSettledUp n r → CanTellAll (burn_events r.disputes) (all_told (claim_events 1 r.claims) (staked s n))
+burn-losers-can s n r i = (can-both (claim_events 1 r.claims) (burn_events r.disputes) (staked s n) (record-burned s n r i).can).1
 
-pub burned-told : (s n : ℕ) (r : Record) (a : Accounts) (b : Balances) → IsSettledUp n r → a ≡ after (burn_events r.disputes) (after (claim_events 1 r.claims) (opened s n)) →
+pub burned-told : (s n : ℕ) (r : Record) (a : Accounts) (b : Balances) → IsSettledUp n r → a ≡ all_told (burn_events r.disputes) (all_told (claim_events 1 r.claims) (staked s n)) →
     b.of ≡ a.of → b.pool ≡ a.pool → b ≡ balances_if_burned s n r
 burned-told s n r a b i e f g =
-    let all : a ≡ after (burn_events_of r) (opened s n) = e ∙ sym (after-both (claim_events 1 r.claims) (burn_events r.disputes) (opened s n)) in
+    let all : a ≡ all_told (burn_events_of r) (staked s n) = e ∙ sym (all_told-both (claim_events 1 r.claims) (burn_events r.disputes) (staked s n)) in
     let t : IsBurned s n r = record-burned s n r i in
     balances-same b.of (kept_stakes_from s r 1 n) b.pool (burned_amount s r) (f ∙ ap (λ (x : Accounts). x.of) all ∙ t.of) (g ∙ ap (λ (x : Accounts). x.pool) all ∙ t.pool)
 

@@ -9,7 +9,7 @@ use Rattle.tournament.specs.Truthful.{IsSafe, TruthfulProversAreSafe}
 use Rattle.deposits.specs.Events.{Event, puts_out, pays, outs, wins, events_of}
 use Rattle.deposits.specs.Accounts.{Accounts, balances_told}
 use Rattle.deposits.specs.Balances.{losses_of, wins_of, balance, balances_from}
-use Rattle.deposits.specs.Theorem.{EventsAddTheirOwn, LedgersAreInClosedForm, RecordsAreInClosedForm, OrderDoesNotMatter, WhoStaysKeepsStake, TruthfulKeepStake}
+use Rattle.deposits.specs.Theorem.{EventsAddTheirOwn, LedgersAreInClosedForm, RecordsAreInClosedForm, OrderOfEventsIsFree, WhoStaysKeepsStake, TruthfulKeepStake}
 use Rattle.deposits.proofs.StepLemmas.{place-of}
 use Rattle.deposits.proofs.OrderLemmas.{of_by, IsClosedForm, closed-form, outs-order, wins-order, spent-order, events-order}
 use Rattle.deposits.proofs.RecordLemmas.{record-events, record-outs, record-wins, record-spent, IsTold, told-of}
@@ -50,7 +50,7 @@ records-are-in-closed-form s n r i = record {
   pool_as_events = ap (λ (m : ℕ). s * m) (sym (record-spent r));
 }
 
-pub order-does-not-matter : OrderDoesNotMatter
+pub order-does-not-matter : OrderOfEventsIsFree
 order-does-not-matter s n r es i h =
     let t : IsTold s n r es = told-of s n r es (events-order n (events_of r) es h (record-events n r i)) (λ p. rw (outs-order (events_of r) es p h) (i.once p))
     (λ p some few. wins-order (events_of r) es p h ∙ record-wins r p) (λ p some few. outs-order (events_of r) es p h ∙ record-outs n r p i some) (spent-order (events_of r) es h ∙ record-spent r) in

@@ -10,7 +10,7 @@ use Rattle.bisect_game.specs.declared.settled.Close.TheVariants.{Out, Collision}
 use Rattle.tournament.specs.OpenDisputes.{one_if}
 use Rattle.deposits.specs.Events.{Event, puts_out, pays, pooled, outs, wins, spent, IsEventOf, AllEventsOf}
 use Rattle.deposits.specs.Events.Event.{ClaimOut, Closed}
-use Rattle.deposits.specs.Accounts.{Accounts, opened, balances_told, outs_told, told, CanTell, after, CanTellAll}
+use Rattle.deposits.specs.Accounts.{Accounts, staked, balances_told, outs_told, told, CanTell, all_told, CanTellAll}
 use Rattle.deposits.proofs.StepLemmas.{is-same, accounts-same, two-cells}
 
 -- THE CLOSED FORM over how often each prover has won and is out
@@ -119,7 +119,7 @@ can-more s n e w o k i once = record {
 
 pub record Comes (s n : ℕ) (es : List Event) (w o : ℕ → ℕ) (k : ℕ) : Type 0 where
   pub can : CanTellAll es (accounts_by s n w o k)
-  pub is : after es (accounts_by s n w o k) ≡ accounts_by s n (λ q. w q + wins es q) (λ q. o q + outs es q) (k + spent es)
+  pub is : all_told es (accounts_by s n w o k) ≡ accounts_by s n (λ q. w q + wins es q) (λ q. o q + outs es q) (k + spent es)
 
 pub comes : (s n : ℕ) (es : List Event) (w o : ℕ → ℕ) (k : ℕ) → AllEventsOf n es → ((p : ℕ) → o p + outs es p ≤ 1) → Comes s n es w o k
 comes s n [] w o k i once = record { can = tt; is = accounts-by-same s n w o _ _ k _ (λ q some few. omega arith) (λ q some few. omega arith) (omega arith) }
@@ -130,34 +130,34 @@ comes s n (e ∷ es) w o k i once =
     let later : Comes s n es w2 o2 (k + pooled e) = comes s n es w2 o2 (k + pooled e) i.1 (λ p. omega (arith, once p)) in
     record {
       can = (can-more s n e w o k i.0 (λ p. omega (arith, once p)), subst (CanTellAll es) (sym step) later.can);
-      is = ap (after es) step ∙ later.is ∙ accounts-by-same s n _ _ _ _ _ _ (λ q some few. omega arith) (λ q some few. omega arith) (omega arith);
+      is = ap (all_told es) step ∙ later.is ∙ accounts-by-same s n _ _ _ _ _ _ (λ q some few. omega arith) (λ q some few. omega arith) (omega arith);
     }
 
--- a ledger that has just been opened
+-- a ledger that has just been staked
 
-opened-of : (s p n : ℕ) → replicate n s ≡ of_by s (λ q. 0) (λ q. 0) p n
-opened-of s p zero = refl
-opened-of s p (suc n) = two-cells _ _ _ _ (omega arith) (opened-of s (p + 1) n)
+staked-of : (s p n : ℕ) → replicate n s ≡ of_by s (λ q. 0) (λ q. 0) p n
+staked-of s p zero = refl
+staked-of s p (suc n) = two-cells _ _ _ _ (omega arith) (staked-of s (p + 1) n)
 
-opened-out : (p n : ℕ) → replicate n false ≡ out_by (λ q. 0) p n
-opened-out p zero = refl
-opened-out p (suc n) = two-cells _ _ _ _ refl (opened-out (p + 1) n)
+staked-out : (p n : ℕ) → replicate n false ≡ out_by (λ q. 0) p n
+staked-out p zero = refl
+staked-out p (suc n) = two-cells _ _ _ _ refl (staked-out (p + 1) n)
 
-pub opened-by : (s n : ℕ) → opened s n ≡ accounts_by s n (λ q. 0) (λ q. 0) 0
-opened-by s n = accounts-same s _ _ _ _ _ _ (opened-of s 1 n) (opened-out 1 n) (omega arith)
+pub staked-by : (s n : ℕ) → staked s n ≡ accounts_by s n (λ q. 0) (λ q. 0) 0
+staked-by s n = accounts-same s _ _ _ _ _ _ (staked-of s 1 n) (staked-out 1 n) (omega arith)
 
 -- THE CLOSED FORM of events that put nobody out twice
 
 pub record IsClosedForm (s n : ℕ) (es : List Event) : Type 0 where
-  pub can : CanTellAll es (opened s n)
-  pub is : after es (opened s n) ≡ accounts_by s n (wins es) (outs es) (spent es)
+  pub can : CanTellAll es (staked s n)
+  pub is : all_told es (staked s n) ≡ accounts_by s n (wins es) (outs es) (spent es)
 
 pub closed-form : (s n : ℕ) (es : List Event) → AllEventsOf n es → ((p : ℕ) → outs es p ≤ 1) → IsClosedForm s n es
 closed-form s n es i once =
     let c : Comes s n es (λ q. 0) (λ q. 0) 0 = comes s n es (λ q. 0) (λ q. 0) 0 i (λ p. omega (arith, once p)) in
     record {
-      can = subst (CanTellAll es) (sym (opened-by s n)) c.can;
-      is = ap (after es) (opened-by s n) ∙ c.is ∙ accounts-by-same s n _ _ _ _ _ _ (λ q some few. omega arith) (λ q some few. omega arith) (omega arith);
+      can = subst (CanTellAll es) (sym (staked-by s n)) c.can;
+      is = ap (all_told es) (staked-by s n) ∙ c.is ∙ accounts-by-same s n _ _ _ _ _ _ (λ q some few. omega arith) (λ q some few. omega arith) (omega arith);
     }
 
 -- IN ANY ORDER

@@ -11,11 +11,11 @@ use Rattle.deposits.specs.Events.{Event, outs, wins, spent, AllEventsOf, claim_e
 use Rattle.deposits.specs.Events.Event.{ClaimOut}
 use Rattle.deposits.specs.declared.amounts.Balances.{Balances}
 use Rattle.deposits.specs.Balances.{losses_of, is_won_if, wins_in, wins_of, claims_out, pooled_if, pooled_in, pool, balances_from, balances_of, AllSides, IsSettledUp}
-use Rattle.deposits.specs.Accounts.{Accounts, opened, after, CanTellAll}
+use Rattle.deposits.specs.Accounts.{Accounts, staked, all_told, CanTellAll}
 use Rattle.deposits.proofs.StepLemmas.{same-test, other-test, two-cells}
 use Rattle.deposits.proofs.OrderLemmas.{any, of_by, accounts_by, accounts-by-same, IsClosedForm, closed-form}
 
--- one list after another
+-- one list all_told another
 
 pub outs-append : (es fs : List Event) (p : ℕ) → outs (es ++ fs) p ≡ outs es p + outs fs p
 outs-append [] fs p = omega arith
@@ -163,46 +163,46 @@ of-record : (s : ℕ) (r : Record) (p n : ℕ) → of_by s (wins_of r) (losses_o
 of-record s r p zero = refl
 of-record s r p (suc n) = two-cells _ _ _ _ refl (of-record s r (p + 1) n)
 
--- the accounts after the events of a record
+-- the accounts all_told the events of a record
 pub record IsTold (s n : ℕ) (r : Record) (es : List Event) : Type 0 where
-  pub can : CanTellAll es (opened s n)
-  pub of : (after es (opened s n)).of ≡ balances_from s r 1 n
-  pub pool : (after es (opened s n)).pool ≡ pool s r
+  pub can : CanTellAll es (staked s n)
+  pub of : (all_told es (staked s n)).of ≡ balances_from s r 1 n
+  pub pool : (all_told es (staked s n)).pool ≡ pool s r
 
 pub told-of : (s n : ℕ) (r : Record) (es : List Event) → AllEventsOf n es → ((p : ℕ) → outs es p ≤ 1) → ((p : ℕ) → 0 < p → p ≤ n → wins es p ≡ wins_of r p) →
     ((p : ℕ) → 0 < p → p ≤ n → outs es p ≡ losses_of r p) → spent es ≡ claims_out r.claims + pooled_in r.disputes → IsTold s n r es
 told-of s n r es i once e f g =
     let c : IsClosedForm s n es = closed-form s n es i once in
-    let all : after es (opened s n) ≡ accounts_by s n (wins_of r) (losses_of r) (claims_out r.claims + pooled_in r.disputes) = c.is ∙ accounts-by-same s n _ _ _ _ _ _ e f g in
+    let all : all_told es (staked s n) ≡ accounts_by s n (wins_of r) (losses_of r) (claims_out r.claims + pooled_in r.disputes) = c.is ∙ accounts-by-same s n _ _ _ _ _ _ e f g in
     record { can = c.can; of = ap (λ (a : Accounts). a.of) all ∙ of-record s r 1 n; pool = ap (λ (a : Accounts). a.pool) all }
 
 pub record-told : (s n : ℕ) (r : Record) → IsSettledUp n r → IsTold s n r (events_of r)
 record-told s n r i = told-of s n r (events_of r) (record-events n r i) i.once (λ p some few. record-wins r p) (λ p some few. record-outs n r p i some) (record-spent r)
 
--- the events of claims and of disputes may be told one list after the other
+-- the events of claims and of disputes may be told one list all_told the other
 
-pub can-both : (es fs : List Event) (a : Accounts) → CanTellAll (es ++ fs) a → CanTellAll es a × CanTellAll fs (after es a)
+pub can-both : (es fs : List Event) (a : Accounts) → CanTellAll (es ++ fs) a → CanTellAll es a × CanTellAll fs (all_told es a)
 can-both [] fs a can = (tt, can)
 can-both (e ∷ es) fs a can = let more = can-both es fs _ can.1 in ((can.0, more.0), more.1)
 
-pub after-both : (es fs : List Event) (a : Accounts) → after (es ++ fs) a ≡ after fs (after es a)
-after-both [] fs a = refl
-after-both (e ∷ es) fs a = after-both es fs _
+pub all_told-both : (es fs : List Event) (a : Accounts) → all_told (es ++ fs) a ≡ all_told fs (all_told es a)
+all_told-both [] fs a = refl
+all_told-both (e ∷ es) fs a = all_told-both es fs _
 
 -- THE CALL
 
-pub claims-can : (s n : ℕ) (r : Record) → IsSettledUp n r → CanTellAll (claim_events 1 r.claims) (opened s n)
-claims-can s n r i = (can-both (claim_events 1 r.claims) (dispute_events r.disputes) (opened s n) (record-told s n r i).can).0
+pub claims-can : (s n : ℕ) (r : Record) → IsSettledUp n r → CanTellAll (claim_events 1 r.claims) (staked s n)
+claims-can s n r i = (can-both (claim_events 1 r.claims) (dispute_events r.disputes) (staked s n) (record-told s n r i).can).0
 
-pub disputes-can : (s n : ℕ) (r : Record) → IsSettledUp n r → CanTellAll (dispute_events r.disputes) (after (claim_events 1 r.claims) (opened s n))
-disputes-can s n r i = (can-both (claim_events 1 r.claims) (dispute_events r.disputes) (opened s n) (record-told s n r i).can).1
+pub disputes-can : (s n : ℕ) (r : Record) → IsSettledUp n r → CanTellAll (dispute_events r.disputes) (all_told (claim_events 1 r.claims) (staked s n))
+disputes-can s n r i = (can-both (claim_events 1 r.claims) (dispute_events r.disputes) (staked s n) (record-told s n r i).can).1
 
 pub balances-same : (xs ys : List ℕ) (m n : ℕ) → xs ≡ ys → m ≡ n → let a : Balances = record { of = xs; pool = m } in let b : Balances = record { of = ys; pool = n } in a ≡ b
 balances-same xs ys m n e f = cc
 
-pub balances-told : (s n : ℕ) (r : Record) (a : Accounts) (b : Balances) → IsSettledUp n r → a ≡ after (dispute_events r.disputes) (after (claim_events 1 r.claims) (opened s n)) →
+pub balances-told : (s n : ℕ) (r : Record) (a : Accounts) (b : Balances) → IsSettledUp n r → a ≡ all_told (dispute_events r.disputes) (all_told (claim_events 1 r.claims) (staked s n)) →
     b.of ≡ a.of → b.pool ≡ a.pool → b ≡ balances_of s n r
 balances-told s n r a b i e f g =
-    let all : a ≡ after (events_of r) (opened s n) = e ∙ sym (after-both (claim_events 1 r.claims) (dispute_events r.disputes) (opened s n)) in
+    let all : a ≡ all_told (events_of r) (staked s n) = e ∙ sym (all_told-both (claim_events 1 r.claims) (dispute_events r.disputes) (staked s n)) in
     let t : IsTold s n r (events_of r) = record-told s n r i in
     balances-same b.of (balances_from s r 1 n) b.pool (pool s r) (f ∙ ap (λ (x : Accounts). x.of) all ∙ t.of) (g ∙ ap (λ (x : Accounts). x.pool) all ∙ t.pool)

@@ -7,7 +7,7 @@ use Rattle.bisect_game.specs.declared.settled.Close.TheVariants.{Out}
 use Rattle.tournament.specs.OpenDisputes.{one_if}
 use Rattle.deposits.specs.Events.{Event, puts_out, pays, pooled}
 use Rattle.deposits.specs.Events.Event.{ClaimOut, Closed}
-use Rattle.deposits.specs.Accounts.{Accounts, is_out, balances_told, outs_told, told, CanTell}
+use Rattle.deposits.specs.Accounts.{Accounts, is_told_out, balances_told, outs_told, told, CanTell}
 use Rattle.deposits.specs.Keeping.{AllHaveStake, IsFunded, IsLedger}
 
 pub same-test : (m n : ℕ) → m ≡ n → (m == n) ≡ true
@@ -332,7 +332,7 @@ not-out-from e p q zero (o ∷ os) same live not_put =
     rw live (rw here at not_put)
 not-out-from e p q (suc k) (o ∷ os) same live not_put = not-out-from e p (q + 1) k os (omega (arith, same)) live not_put
 
-pub not-out-after : (s : Accounts) (e : Event) (p : ℕ) → 0 < p → is_out s p ≡ false → puts_out e p ≡ false → is_out (told s e) p ≡ false
+pub not-out-after : (s : Accounts) (e : Event) (p : ℕ) → 0 < p → is_told_out s p ≡ false → puts_out e p ≡ false → is_told_out (told s e) p ≡ false
 not-out-after s e p some live not_put = not-out-from e p 1 (p - 1) s.out (place-of p some) live not_put
 
 pub told-length : (stake : ℕ) (e : Event) (p : ℕ) (xs : List ℕ) → length (balances_told stake e p xs) ≡ length xs

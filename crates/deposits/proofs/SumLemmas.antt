@@ -1,10 +1,10 @@
--- Nothing is lost: balances and pool add up to the stakes after any events that may be told.
+-- Nothing is lost: balances and pool add up to the stakes all_told any events that may be told.
 use Rattle.std.proofs.Common.{◌≡◌, ℕ, ◌+◌, ◌-◌, ◌*◌, ◌<◌, ◌≤◌, Bool, true, false, ◌||◌, ◌==◌, List, [], ◌∷◌, length, refl, sym, ◌∙◌, arith, subst}
 use Rattle.std.proofs.lemmas.Bool.{or_left}
 use Rattle.bisect_game.specs.declared.settled.Close.TheVariants.{Out, Collision}
 use Rattle.deposits.specs.Events.{Event, events_of}
 use Rattle.deposits.specs.Events.Event.{ClaimOut, Closed}
-use Rattle.deposits.specs.Accounts.{Accounts, opened, is_out, balances_told, outs_told, told, CanTell, after, CanTellAll}
+use Rattle.deposits.specs.Accounts.{Accounts, staked, is_told_out, balances_told, outs_told, told, CanTell, all_told, CanTellAll}
 use Rattle.deposits.specs.Keeping.{IsFunded}
 use Rattle.deposits.specs.Theorem.{LedgersAddUp, BalancesAddUp}
 use Rattle.deposits.proofs.StepLemmas.{same-test, place-of, kept-claim, kept-pass, loses, loses-set, gains-set, marks-set, loses-length, claim-balances, claim-outs, pass-balances, pass-outs, told-as, told-nothing, told-both, told-length, second-can, new-funded, count-of}
@@ -36,7 +36,7 @@ funded-pass s a b i can =
     let lt : a - 1 < length s.of = omega (arith, some, few) in
     let lt2 : b - 1 < length s.of = omega (arith, some2, few2) in
     let flags : length s.out ≡ length s.of = i.flags in
-    let live : is_out s a ≡ false = can.not_yet a (or_left (a == a) false (same-test a a refl)) in
+    let live : is_told_out s a ≡ false = can.not_yet a (or_left (a == a) false (same-test a a refl)) in
     let len : length (loses s.stake a 1 s.of) ≡ length s.of = loses-length s.stake a 1 s.of in
     let k = kept-pass s.stake a b (a - 1) (b - 1) s.of s.out s.pool i (place-of a some) (place-of b some2) lt lt2 live in
     let m = rw (loses-set s.stake a 1 (a - 1) s.of (place-of a some) lt) at k in
@@ -72,16 +72,16 @@ pub record IsKept (s t : Accounts) : Type 0 where
   pub stake : t.stake ≡ s.stake
   pub provers : length t.of ≡ length s.of
 
-pub kept-after : (es : List Event) (s : Accounts) → Funded s → CanTellAll es s → IsKept s (after es s)
-kept-after [] s i can = record { funded = i; stake = refl; provers = refl }
-kept-after (e ∷ es) s i can =
-    let k : IsKept (told s e) (after es (told s e)) = kept-after es (told s e) (funded-told s e i can.0) can.1 in
+pub kept-all_told : (es : List Event) (s : Accounts) → Funded s → CanTellAll es s → IsKept s (all_told es s)
+kept-all_told [] s i can = record { funded = i; stake = refl; provers = refl }
+kept-all_told (e ∷ es) s i can =
+    let k : IsKept (told s e) (all_told es (told s e)) = kept-all_told es (told s e) (funded-told s e i can.0) can.1 in
     record { funded = k.funded; stake = k.stake; provers = k.provers ∙ told-length s.stake e 1 s.of }
 
 pub ledgers-add-up : LedgersAddUp
 ledgers-add-up stake provers es can =
-    let k : IsKept (opened stake provers) (after es (opened stake provers)) = kept-after es (opened stake provers) (new-funded stake provers) can in
-    let count : length (after es (opened stake provers)).of ≡ provers = k.provers ∙ count-of stake provers in
+    let k : IsKept (staked stake provers) (all_told es (staked stake provers)) = kept-all_told es (staked stake provers) (new-funded stake provers) can in
+    let count : length (all_told es (staked stake provers)).of ≡ provers = k.provers ∙ count-of stake provers in
     rw (k.stake, count) at k.funded.total
 
 pub balances-add-up : BalancesAddUp

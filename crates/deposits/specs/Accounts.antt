@@ -1,4 +1,4 @@
--- To believe: what a ledger has, and what it has after an event. Each prover gains and loses its own amounts.
+-- To believe: what a ledger has, and what it has all_told an event. Each prover gains and loses its own amounts.
 use Rattle.std.specs.Prelude.{◌≡◌, ℕ, ◌+◌, ◌-◌, ◌*◌, Bool, true, false, ◌||◌, List, [], ◌∷◌, length, replicate, slice_index_or}
 use Rattle.tournament.specs.OpenDisputes.{one_if}
 use Rattle.deposits.specs.Events.{Event, puts_out, pays, pooled, IsEventOf}
@@ -11,11 +11,11 @@ pub record Accounts : Type 0 where
   pub pool : ℕ
 
 -- each prover has put down its stake
-abbrev pub opened : ℕ → ℕ → Accounts
-opened stake provers = record { stake = stake; of = replicate provers stake; out = replicate provers false; pool = 0 }
+abbrev pub staked : ℕ → ℕ → Accounts
+staked stake provers = record { stake = stake; of = replicate provers stake; out = replicate provers false; pool = 0 }
 
-abbrev pub is_out : Accounts → ℕ → Bool
-is_out s p = slice_index_or s.out (p - 1) false
+abbrev pub is_told_out : Accounts → ℕ → Bool
+is_told_out s p = slice_index_or s.out (p - 1) false
 
 -- an event gives a prover the stake of the other side, or takes its own
 
@@ -33,13 +33,13 @@ told s e = record { stake = s.stake; of = balances_told s.stake e 1 s.of; out = 
 -- an event may be applied: it is one of the provers, and eliminates nobody that is out
 pub record CanTell (s : Accounts) (e : Event) : Type 0 where
   pub known : IsEventOf (length s.of) e
-  pub not_yet : (p : ℕ) → puts_out e p ≡ true → is_out s p ≡ false
+  pub not_yet : (p : ℕ) → puts_out e p ≡ true → is_told_out s p ≡ false
 
--- events, one after another
+-- events, one all_told another
 
-abbrev pub after : List Event → Accounts → Accounts
-after [] s = s
-after (e ∷ es) s = after es (told s e)
+abbrev pub all_told : List Event → Accounts → Accounts
+all_told [] s = s
+all_told (e ∷ es) s = all_told es (told s e)
 
 abbrev pub CanTellAll : List Event → Accounts → Type 0
 CanTellAll [] s = Unit {0}

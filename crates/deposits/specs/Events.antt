@@ -15,9 +15,9 @@ pub data Event : Type 0 where
   Closed : ℕ → ℕ → Close → Event
 
 -- a close of a dispute of two provers eliminates a prover
-abbrev pub is_put_out : ℕ → ℕ → Close → ℕ → Bool
-is_put_out a b (Out x y) p = (x && (a == p)) || (y && (b == p))
-is_put_out a b (Collision s t) p = false
+abbrev pub is_eliminated : ℕ → ℕ → Close → ℕ → Bool
+is_eliminated a b (Out x y) p = (x && (a == p)) || (y && (b == p))
+is_eliminated a b (Collision s t) p = false
 
 -- it eliminates the other side alone
 abbrev pub is_won : ℕ → ℕ → Close → ℕ → Bool
@@ -33,7 +33,7 @@ pooled_by_close (Collision s t) = 0
 
 abbrev pub puts_out : Event → ℕ → Bool
 puts_out (ClaimOut q) p = q == p
-puts_out (Closed a b c) p = is_put_out a b c p
+puts_out (Closed a b c) p = is_eliminated a b c p
 
 abbrev pub pays : Event → ℕ → Bool
 pays (ClaimOut q) p = false

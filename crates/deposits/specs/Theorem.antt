@@ -14,7 +14,7 @@ use Rattle.tournament.specs.Journals.{turns, Legal}
 use Rattle.tournament.specs.Theorem.{Stays}
 use Rattle.tournament.specs.Truthful.{IsTruthfulProver}
 use Rattle.deposits.specs.Events.{Event, puts_out, pays, outs, wins, spent, AllEventsOf, events_of}
-use Rattle.deposits.specs.Accounts.{Accounts, opened, told, after, CanTellAll}
+use Rattle.deposits.specs.Accounts.{Accounts, staked, told, all_told, CanTellAll}
 use Rattle.deposits.specs.Balances.{balance, balances_of, pool, IsSettledUp}
 
 -- what a prover has in a ledger
@@ -26,15 +26,15 @@ abbrev pub EventsAddTheirOwn : Type 0
 EventsAddTheirOwn =
     (a : Accounts) (e : Event) (p : ℕ) → 0 < p → p ≤ length a.of → has (told a e) p ≡ has a p + a.stake * one_if (pays e p) - a.stake * one_if (puts_out e p)
 
--- a ledger after events, in closed form
+-- a ledger all_told events, in closed form
 pub record IsInClosedForm (stake provers : ℕ) (es : List Event) (a : Accounts) : Type 0 where
   pub balances : (p : ℕ) → 0 < p → p ≤ provers → has a p ≡ stake * (1 + wins es p - outs es p)
   pub pool : a.pool ≡ stake * spent es
 
 -- events that eliminate nobody twice may be applied in their order, with the closed form as the result
 pub record MayBeTold (stake provers : ℕ) (es : List Event) : Type 0 where
-  pub can : CanTellAll es (opened stake provers)
-  pub comes_to : IsInClosedForm stake provers es (after es (opened stake provers))
+  pub can : CanTellAll es (staked stake provers)
+  pub comes_to : IsInClosedForm stake provers es (all_told es (staked stake provers))
 
 abbrev pub LedgersAreInClosedForm : Type 0
 LedgersAreInClosedForm = (stake provers : ℕ) (es : List Event) → AllEventsOf provers es → ((p : ℕ) → outs es p ≤ 1) → MayBeTold stake provers es
@@ -48,12 +48,12 @@ pub record RecordIsInClosedForm (stake provers : ℕ) (r : Record) : Type 0 wher
 abbrev pub RecordsAreInClosedForm : Type 0
 RecordsAreInClosedForm = (stake provers : ℕ) (r : Record) → IsSettledUp provers r → RecordIsInClosedForm stake provers r
 
--- nothing is lost: after any events that may be applied balances and pool add up to the stakes, and so they do for a record
+-- nothing is lost: all_told any events that may be applied balances and pool add up to the stakes, and so they do for a record
 
 abbrev pub LedgersAddUp : Type 0
 LedgersAddUp =
-    (stake provers : ℕ) (es : List Event) → CanTellAll es (opened stake provers) →
-    sum (after es (opened stake provers)).of + (after es (opened stake provers)).pool ≡ stake * provers
+    (stake provers : ℕ) (es : List Event) → CanTellAll es (staked stake provers) →
+    sum (all_told es (staked stake provers)).of + (all_told es (staked stake provers)).pool ≡ stake * provers
 
 abbrev pub BalancesAddUp : Type 0
 BalancesAddUp =
@@ -62,12 +62,12 @@ BalancesAddUp =
 
 -- the events of a record may be applied in whatever order, and give its balances
 pub record ComeToBalances (stake provers : ℕ) (r : Record) (es : List Event) : Type 0 where
-  pub can : CanTellAll es (opened stake provers)
-  pub balances : (after es (opened stake provers)).of ≡ (balances_of stake provers r).of
-  pub pool : (after es (opened stake provers)).pool ≡ (balances_of stake provers r).pool
+  pub can : CanTellAll es (staked stake provers)
+  pub balances : (all_told es (staked stake provers)).of ≡ (balances_of stake provers r).of
+  pub pool : (all_told es (staked stake provers)).pool ≡ (balances_of stake provers r).pool
 
-abbrev pub OrderDoesNotMatter : Type 0
-OrderDoesNotMatter = (stake provers : ℕ) (r : Record) (es : List Event) → IsSettledUp provers r → IsPermutation (events_of r) es → ComeToBalances stake provers r es
+abbrev pub OrderOfEventsIsFree : Type 0
+OrderOfEventsIsFree = (stake provers : ℕ) (r : Record) (es : List Event) → IsSettledUp provers r → IsPermutation (events_of r) es → ComeToBalances stake provers r es
 
 -- a prover that stays, as the dispute theorem proves for a truthful one, has at least its stake, and so has one that answers truly
 

@@ -1,5 +1,5 @@
 //! The theorem of deposits, each part the contract of a function that does nothing.
-ghost use Rattle.deposits.specs.Theorem.{EventsAddTheirOwn, LedgersAreInClosedForm, RecordsAreInClosedForm, LedgersAddUp, BalancesAddUp, OrderDoesNotMatter, WhoStaysKeepsStake, TruthfulKeepStake, EndedIsSettledUp};
+ghost use Rattle.deposits.specs.Theorem.{EventsAddTheirOwn, LedgersAreInClosedForm, RecordsAreInClosedForm, LedgersAddUp, BalancesAddUp, OrderOfEventsIsFree, WhoStaysKeepsStake, TruthfulKeepStake, EndedIsSettledUp};
 ghost use Rattle.deposits.specs.Burning.{BurnedAddUp, StagesBurn, RoundsBurn, OthersPayForStages, BetweenBurns, FirstIsPaidForStages};
 ghost use Rattle.deposits.specs.Stalled.{StallsAreFree};
 ghost use Rattle.deposits.specs.ExactBalance.{WhoLivesWinsAll, OthersGainNothing, TrueMovesWinAll, TruthfulWinAll};
@@ -31,7 +31,7 @@ pub fn balances_and_pool_add_up()
 
 /// Order does not matter: the events of a record may be applied to a ledger in whatever order, and it has the balances of the record then.
 pub fn events_come_in_any_order()
-    ensures { OrderDoesNotMatter }
+    ensures { OrderOfEventsIsFree }
 {}
 
 /// The truthful keep their stakes: a prover that stays, as the dispute theorem proves for a truthful one, has at least its stake

@@ -1,7 +1,7 @@
 //! A ledger of stakes.
 ghost use Rattle.std.specs.Prelude.{◌≡◌, ◌-◌, ◌<◌, ◌≤◌, true, false, length, slice_index, IfOk, replicate};
 ghost use Rattle.bisect_game.specs.declared.settled.Close.TheVariants.{Out};
-ghost use Rattle.deposits.specs.Accounts.{opened, is_out, told, CanTell};
+ghost use Rattle.deposits.specs.Accounts.{staked, is_told_out, told, CanTell};
 ghost use Rattle.deposits.specs.Events.Event.{ClaimOut, Closed};
 
 use crate::amounts::Balances;
@@ -50,7 +50,7 @@ impl Ledger {
         requires some { 0 < provers }
         requires few { provers ≤ 16 }
         requires small { stake ≤ 1000000000 }
-        ensures { IfOk result (λ l. l ≡ opened stake provers) }
+        ensures { IfOk result (λ l. l ≡ staked stake provers) }
     {
         Ok(Ledger {
             stake,
@@ -126,7 +126,7 @@ impl Ledger {
     pub fn is_out(&self, p: u32) -> bool
         requires some { 0 < p }
         requires few { p ≤ length self.now.of }
-        ensures { result ≡ is_out self.now p }
+        ensures { result ≡ is_told_out self.now p }
     {
         self.out[p as usize - 1]
     }

@@ -1,7 +1,7 @@
 //! The balances of a match that has ended.
 ghost use Rattle.std.specs.Prelude.{◌≡◌, ◌+◌, ◌<◌, ◌≤◌, ◌^◌, length, IfOk};
 ghost use Rattle.deposits.specs.Events.{claim_events, dispute_events};
-ghost use Rattle.deposits.specs.Accounts.{after, CanTellAll};
+ghost use Rattle.deposits.specs.Accounts.{all_told, CanTellAll};
 ghost use Rattle.deposits.specs.Balances.{balances_of, IsSettledUp};
 ghost use Rattle.deposits.specs.Burning.{burn_events, balances_if_burned};
 
@@ -16,7 +16,7 @@ use tournament::Record;
 fn tell_claims(ledger: &mut Ledger, p: u32, claims: &[Option<Settled>])
     requires few { p + length claims.now < 2 ^ 32 }
     requires can { CanTellAll (claim_events p claims.now) ledger.old }
-    ensures { ledger.new ≡ after (claim_events p claims.now) ledger.old }
+    ensures { ledger.new ≡ all_told (claim_events p claims.now) ledger.old }
 {
     match claims {
         [] => {}
@@ -31,7 +31,7 @@ fn tell_claims(ledger: &mut Ledger, p: u32, claims: &[Option<Settled>])
 /// Applies to a ledger the closes of disputes.
 fn tell_disputes(ledger: &mut Ledger, disputes: &[Dispute])
     requires { CanTellAll (dispute_events disputes.now) ledger.old }
-    ensures { ledger.new ≡ after (dispute_events disputes.now) ledger.old }
+    ensures { ledger.new ≡ all_told (dispute_events disputes.now) ledger.old }
 {
     match disputes {
         [] => {}
@@ -74,7 +74,7 @@ pub fn balances(
 /// Applies to a ledger that each side that these disputes eliminated is out, as by its claim: nobody wins its stake.
 fn tell_burned(ledger: &mut Ledger, disputes: &[Dispute])
     requires { CanTellAll (burn_events disputes.now) ledger.old }
-    ensures { ledger.new ≡ after (burn_events disputes.now) ledger.old }
+    ensures { ledger.new ≡ all_told (burn_events disputes.now) ledger.old }
 {
     match disputes {
         [] => {}

@@ -21,10 +21,10 @@ use Rattle.board_book.specs.Entries.{state_after}
 use Rattle.dispute_board.specs.declared.turns.Posted.{Posted}
 use Rattle.dispute_board.specs.OneHistory.{ask_in, IsThere, MayPostFor, receipt_of, own_state}
 use Rattle.dispute_board.specs.Turns.{is_due, reply_in, reply_on_board, undue, AsksTheCase, Asks, Posts}
-use Rattle.board_book.specs.Keeping.{AreNumbered}
+use Rattle.board_book.specs.Keeping.{NumbersAgree}
 use Rattle.dispute_board.proofs.Points.{due_says, same_qid-is}
 
-module _ {N M : Type 0} (ruling : N → Ruling) (says : M → Says) (law : AreNumbered ruling says) where
+module _ {N M : Type 0} (ruling : N → Ruling) (says : M → Says) (law : NumbersAgree ruling says) where
   task_there : (bs : List (BookOf N M)) (t : ℕ) (b : BookOf N M) → numbered bs t ≡ Some b → numbered (tasks_of ruling says (openings bs)) t ≡ Some (task_of ruling says b.opening)
   task_there bs t b there = law.opening (openings bs) t b.opening (law.book bs t b there)
 
@@ -41,7 +41,7 @@ module _ {N M : Type 0} (ruling : N → Ruling) (says : M → Says) (law : AreNu
 
 -- what a turn does, from what the task's book does
 
-module _ {N M : Type 0} (ruling : N → Ruling) (says : M → Says) (law : AreNumbered ruling says) where
+module _ {N M : Type 0} (ruling : N → Ruling) (says : M → Says) (law : NumbersAgree ruling says) where
   -- the task's own entries come to the state of its book
   own_is : (bs : List (BookOf N M)) (journal : List (ℕ × Entry)) (t : ℕ) (b : BookOf N M) → entries_of t journal ≡ b.journal → state_after (rules_of (ruling b.opening.judge) b.opening.setup) (says b.opening.provers) b.journal ≡ b.game →
       own_state (task_of ruling says b.opening) t journal ≡ b.game

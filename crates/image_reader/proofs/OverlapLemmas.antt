@@ -11,7 +11,7 @@ use Rattle.std.specs.List.{list_any, count_by}
 use Rattle.std.specs.List.Sorted.{IsPermutation, IsNonDecreasingBy}
 use Rattle.image_reader.specs.declared.header.ProgramHeader.{ProgramHeader}
 use Rattle.image_reader.proofs.LoadsLemmas.{none_at}
-use Rattle.image_reader.specs.Elf.{occupies, share, some_share, is_empty, has_larger_file, covers, byte_of_load, byte_of_loads}
+use Rattle.image_reader.specs.Elf.{occupies, share, some_share, has_no_bytes, has_larger_file, covers, byte_of_load, byte_of_loads}
 
 -- how many of the loads have an address
 abbrev pub count : ℕ → List ProgramHeader → ℕ
@@ -24,7 +24,7 @@ count_by-count a loads = is_count_by (count a) (λ load. occupies load a) refl (
 
 -- the filled loads
 abbrev pub filled : List ProgramHeader → List ProgramHeader
-filled loads = filter (λ load. not (is_empty load)) loads
+filled loads = filter (λ load. not (has_no_bytes load)) loads
 
 -- two that don't share an address don't both have it
 not_both : (x y : ProgramHeader) (a : ℕ) → share x y ≡ false → occupies x a ≡ true → occupies y a ≡ false
@@ -91,24 +91,24 @@ same_shares xs ys same = ⊎_elim
     (cases_Bool (some_share xs))
 
 -- an empty load has no address
-no_address : (x : ProgramHeader) (a : ℕ) → is_empty x ≡ true → occupies x a ≡ false
+no_address : (x : ProgramHeader) (a : ℕ) → has_no_bytes x ≡ true → occupies x a ≡ false
 no_address x a empty = grind (arith, nat_tests)
 
 count-filled : (a : ℕ) (loads : List ProgramHeader) → count a (filled loads) ≡ count a loads
 count-filled a [] = refl
-count-filled a (x ∷ loads) = kept (count-filled a loads) (is_empty x) refl
+count-filled a (x ∷ loads) = kept (count-filled a loads) (has_no_bytes x) refl
   where
-    kept : count a (filled loads) ≡ count a loads → (t : Bool) → is_empty x ≡ t → count a (cond (not t) (x ∷ filled loads) (filled loads)) ≡ count a (x ∷ loads)
+    kept : count a (filled loads) ≡ count a loads → (t : Bool) → has_no_bytes x ≡ t → count a (cond (not t) (x ∷ filled loads) (filled loads)) ≡ count a (x ∷ loads)
     kept rest true empty = let none : occupies x a ≡ false = no_address x a empty in rw none rest
     kept rest false full = ap (λ n. cond (occupies x a) (1 + n) n) rest
 
-none_empty : (loads : List ProgramHeader) → list_any is_empty (filled loads) ≡ false
+none_empty : (loads : List ProgramHeader) → list_any has_no_bytes (filled loads) ≡ false
 none_empty [] = refl
-none_empty (x ∷ loads) = kept (none_empty loads) (is_empty x) refl
+none_empty (x ∷ loads) = kept (none_empty loads) (has_no_bytes x) refl
   where
-    kept : list_any is_empty (filled loads) ≡ false → (t : Bool) → is_empty x ≡ t → list_any is_empty (cond (not t) (x ∷ filled loads) (filled loads)) ≡ false
+    kept : list_any has_no_bytes (filled loads) ≡ false → (t : Bool) → has_no_bytes x ≡ t → list_any has_no_bytes (cond (not t) (x ∷ filled loads) (filled loads)) ≡ false
     kept rest true empty = rest
-    kept rest false full = ap (λ t. t || list_any is_empty (filled loads)) full ∙ rest
+    kept rest false full = ap (λ t. t || list_any has_no_bytes (filled loads)) full ∙ rest
 
 -- the filled loads, in another order, share an address where the loads do
 pub share-in_order : (loads segments : List ProgramHeader) → IsPermutation (filled loads) segments → some_share segments ≡ some_share loads
@@ -121,8 +121,8 @@ share-in_order loads segments moved = same_shares segments loads alike
         ∙ (sym (count_by-count a (filled loads)) ∙ count-filled a loads))
 
 -- none of the filled loads is empty, in any order
-pub filled-in_order : (loads segments : List ProgramHeader) → IsPermutation (filled loads) segments → list_any is_empty segments ≡ false
-filled-in_order loads segments moved = sym (list_any-IsPermutation is_empty _ segments moved) ∙ none_empty loads
+pub filled-in_order : (loads segments : List ProgramHeader) → IsPermutation (filled loads) segments → list_any has_no_bytes segments ≡ false
+filled-in_order loads segments moved = sym (list_any-IsPermutation has_no_bytes _ segments moved) ∙ none_empty loads
 
 -- one that ends before the next begins shares no address with any behind it
 pub next_alone : (loads : List ProgramHeader) (k : ℕ) (d : ProgramHeader) → IsNonDecreasingBy (λ load. load.p_vaddr) loads → k < length loads

@@ -12,28 +12,28 @@ use Rattle.rd_base.specs.Results.{◌>>=◌}
 use Rattle.image_reader.specs.Image.{Image, too_large}
 
 -- the number in this many bytes of a file from an offset on, the least byte first ('Data Encoding')
-abbrev pub field : ℕ → List ℕ → ℕ → ℕ
-field width file offset = little_number width (drop offset file)
+abbrev pub field_at : ℕ → List ℕ → ℕ → ℕ
+field_at width file offset = little_number width (drop offset file)
 
 -- the fields of a file's header that are read ('ELF Header')
 unfoldable pub header_at : List ℕ → Header
 header_at file = record {
-  e_type = field 2 file 16;
-  e_machine = field 2 file 18;
-  e_entry = field 4 file 24;
-  e_phoff = field 4 file 28;
-  e_phentsize = field 2 file 42;
-  e_phnum = field 2 file 44;
+  e_type = field_at 2 file 16;
+  e_machine = field_at 2 file 18;
+  e_entry = field_at 4 file 24;
+  e_phoff = field_at 4 file 28;
+  e_phentsize = field_at 2 file 42;
+  e_phnum = field_at 2 file 44;
 }
 
 -- the fields that are read of the program header at an offset ('Program Header')
 unfoldable pub program_header_at : List ℕ → ℕ → ProgramHeader
 program_header_at file offset = record {
-  p_type = field 4 file offset;
-  p_offset = field 4 file (offset + 4);
-  p_vaddr = field 4 file (offset + 8);
-  p_filesz = field 4 file (offset + 16);
-  p_memsz = field 4 file (offset + 20);
+  p_type = field_at 4 file offset;
+  p_offset = field_at 4 file (offset + 4);
+  p_vaddr = field_at 4 file (offset + 8);
+  p_filesz = field_at 4 file (offset + 16);
+  p_memsz = field_at 4 file (offset + 20);
 }
 
 -- how a 32-bit little-endian file of version 1 begins ('ELF Identification')
@@ -97,8 +97,8 @@ some_share [] = false
 some_share (load ∷ loads) = list_any (share load) loads || some_share loads
 
 -- whether a load has no address, as it has no bytes in memory
-abbrev pub is_empty : ProgramHeader → Bool
-is_empty load = load.p_memsz == 0
+abbrev pub has_no_bytes : ProgramHeader → Bool
+has_no_bytes load = load.p_memsz == 0
 
 -- rules 6 to 9, each over all loads before the next (6 and 7: 'Program Header'; 8 and 9 are ours)
 unfoldable pub checked_in : ℕ → List ProgramHeader → Result (Unit {0}) ImageFault

@@ -1,6 +1,6 @@
 //! The faults of images.
 ghost use Rattle.std.specs.Prelude.{◌≡◌};
-ghost use Rattle.image_reader.specs.Fault.{rule_of};
+ghost use Rattle.image_reader.specs.Fault.{image_rule};
 ghost use Rattle.image_reader.specs.declared.fault.ImageFault.TheVariants.{Memory};
 
 use std::alloc::{AllocError, AllocFailed};
@@ -54,7 +54,7 @@ pub enum ImageFault {
 impl ImageFault {
     /// The number of the rule that is broken, from 1 to 11 in the order of the variants, and `None` for out of memory.
     pub fn rule(self) -> Option<u32>
-        ensures { result ≡ rule_of self }
+        ensures { result ≡ image_rule self }
     {
         match self {
             ImageFault::Short => Some(1),

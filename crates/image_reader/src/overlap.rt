@@ -2,14 +2,14 @@
 ghost use Rattle.std.specs.Prelude.{◌≡◌, false, not, filter, IfOk};
 ghost use Rattle.std.specs.List.{list_any};
 ghost use Rattle.std.specs.List.Sorted.{IsNonDecreasingBy};
-ghost use Rattle.image_reader.specs.Elf.{is_empty, some_share};
+ghost use Rattle.image_reader.specs.Elf.{has_no_bytes, some_share};
 
 use crate::header::ProgramHeader;
 use std::alloc::{AllocError, Global};
 
 /// The loads that aren't empty.
 fn occupied(alloc: Global, loads: &[ProgramHeader]) -> Result<Vec<ProgramHeader>, AllocError>
-    ensures { IfOk result (λ segments. segments.items ≡ filter (λ load. not (is_empty load)) loads.now) }
+    ensures { IfOk result (λ segments. segments.items ≡ filter (λ load. not (has_no_bytes load)) loads.now) }
 {
     loads
         .iter()
@@ -23,7 +23,7 @@ fn occupied_in_order(
     alloc: Global,
     loads: &[ProgramHeader],
 ) -> Result<Vec<ProgramHeader>, AllocError>
-    ensures filled { IfOk result (λ segments. list_any is_empty segments.items ≡ false) }
+    ensures filled { IfOk result (λ segments. list_any has_no_bytes segments.items ≡ false) }
     ensures rising { IfOk result (λ segments. IsNonDecreasingBy (λ load. load.p_vaddr) segments.items) }
     ensures same { IfOk result (λ segments. some_share segments.items ≡ some_share loads.now) }
 {
@@ -34,7 +34,7 @@ fn occupied_in_order(
 
 /// Whether any two loads share an address, which two neighbours then do.
 fn any_neighbours_share(loads: &[ProgramHeader]) -> bool
-    requires filled { list_any is_empty loads.now ≡ false }
+    requires filled { list_any has_no_bytes loads.now ≡ false }
     requires rising { IsNonDecreasingBy (λ load. load.p_vaddr) loads.now }
     ensures { result ≡ some_share loads.now }
 {

@@ -5,11 +5,11 @@ use Rattle.std.specs.Map.{lookup}
 use Rattle.std.specs.BTreeMap.{is_at}
 use Rattle.std.proofs.Math.Nat.{div-one}
 use Rattle.std.proofs.lemmas.Bool.{cases_eq}
-use Rattle.mem_plain.specs.Contents.{Contents}
+use Rattle.mem_plain.specs.Contents.{Contents, has_page}
 use Rattle.rd_base.specs.declared.digest.Digest32.{Digest32}
 use Rattle.merkle_nodes.specs.Node.{digest_at}
 use Rattle.mem_tree.specs.Page.{AreEmpty, IsMadeTree, heap_node}
-use Rattle.mem_tree.specs.Tree.{Kept, kept_of, AllMade, IsJoinedAbove, IsJoinedBut, IsOver, IsRoot, is_among, by_place, page_at, upper_at}
+use Rattle.mem_tree.specs.Tree.{Kept, kept_of, AllMade, IsJoinedAbove, IsJoinedBut, IsOver, IsRoot, by_place, page_at, upper_at}
 use Rattle.mem_tree.specs.declared.kept.PageTree.{PageTree}
 use Rattle.mem_tree.specs.declared.kept.Nodes.{Nodes}
 use Rattle.mem_tree.proofs.MemoryLemmas.{up-one}
@@ -29,9 +29,9 @@ module _ (digest : List ℕ → List ℕ) (t t' : Kept) (page : ℕ) (empties : 
       (ap (λ es. digest_at es (7 + n)) empties) (ap (λ es. digest_at es (7 + (n + 1))) empties) is
 
   -- what is written in and above a stale page isn't seen
-  pub stays-joined : (stale : List ℕ) → IsJoinedBut digest t stale → is_among stale page ≡ true → IsJoinedBut digest t' stale
+  pub stays-joined : (stale : List ℕ) → IsJoinedBut digest t stale → has_page stale page ≡ true → IsJoinedBut digest t' stale
   stays-joined stale before is = record {
-    roots = λ p fresh. root-kept p (λ e. true≢false (sym is ∙ (ap (is_among stale) (sym e) ∙ fresh))) (before.roots p fresh);
+    roots = λ p fresh. root-kept p (λ e. true≢false (sym is ∙ (ap (has_page stale) (sym e) ∙ fresh))) (before.roots p fresh);
     above = λ n k low fresh. above-kept n k (λ e. true≢false (sym is ∙ fresh page (sym e))) (before.above n k low fresh);
     top = λ n k high. upper_kept n k (inl high) ∙ before.top n k high;
   }
@@ -44,7 +44,7 @@ module _ (digest : List ℕ → List ℕ) (t t' : Kept) (page : ℕ) (empties : 
       (cases_eq p page)
 
 -- more pages are stale
-pub joined-fewer : (digest : List ℕ → List ℕ) (t : Kept) (stale more : List ℕ) → ((p : ℕ) → is_among more p ≡ false → is_among stale p ≡ false) → IsJoinedBut digest t stale → IsJoinedBut digest t more
+pub joined-fewer : (digest : List ℕ → List ℕ) (t : Kept) (stale more : List ℕ) → ((p : ℕ) → has_page more p ≡ false → has_page stale p ≡ false) → IsJoinedBut digest t stale → IsJoinedBut digest t more
 joined-fewer digest t stale more tells is = record {
   roots = λ p fresh. is.roots p (tells p fresh);
   above = λ n k low fresh. is.above n k low (λ p at. tells p (fresh p at));
@@ -71,7 +71,7 @@ upper-same a b upper n k = ap (λ u. lookup (is_at (by_place (n, k))) u.entries)
 pub page-same : (a b : Nodes) → a.pages ≡ b.pages → (p : ℕ) → page_at (kept_of a) p ≡ page_at (kept_of b) p
 page-same a b pages p = ap (λ ps. lookup (is_at (nat_cmp p)) ps.entries) pages
 
-pub over-fewer : (digest : List ℕ → List ℕ) (t : Kept) (stale more : List ℕ) (m : Contents) → ((p : ℕ) → is_among more p ≡ false → is_among stale p ≡ false) → IsOver digest t stale m → IsOver digest t more m
+pub over-fewer : (digest : List ℕ → List ℕ) (t : Kept) (stale more : List ℕ) (m : Contents) → ((p : ℕ) → has_page more p ≡ false → has_page stale p ≡ false) → IsOver digest t stale m → IsOver digest t more m
 over-fewer digest t stale more m tells is = record { pages = λ p fresh. is.pages p (tells p fresh); joined = joined-fewer digest t stale more tells is.joined }
 
 pub nothing-at : (t : Kept) → t.pages ≡ [] → (p : ℕ) → page_at t p ≡ None

@@ -13,13 +13,13 @@ use Rattle.std.proofs.lemmas.List.Folds.{list_any-append}
 use Rattle.std.proofs.lemmas.Map.Entries.{length-keys_of}
 use Rattle.std.proofs.lemmas.Map.Keys.{IsDistinct-from_sorted}
 use Rattle.std.proofs.lemmas.Map.Made.{is_some-lookup, length-le_from_is_member}
-use Rattle.mem_plain.specs.Contents.{Contents}
-use Rattle.mem_tree.specs.Tree.{Kept, Tree, IsJoinedBut, IsTreeOf, IsUsedOrTouched, by_place, is_among, page_at, upper_at}
+use Rattle.mem_plain.specs.Contents.{Contents, has_page}
+use Rattle.mem_tree.specs.Tree.{Kept, Tree, IsJoinedBut, IsTreeOf, IsUsedOrTouched, by_place, page_at, upper_at}
 use Rattle.mem_tree.proofs.MemoryLemmas.{up-half}
 use Rattle.mem_tree.proofs.AmongLemmas.{among-head, among-tail, among-other}
 
 -- one of some pages is the one over which a node stands, or none is
-stale-over : (stale : List ℕ) (w k : ℕ) → ((p : ℕ) × (p / w ≡ k) × (is_among stale p ≡ true)) ⊎ ((p : ℕ) → p / w ≡ k → is_among stale p ≡ false)
+stale-over : (stale : List ℕ) (w k : ℕ) → ((p : ℕ) × (p / w ≡ k) × (has_page stale p ≡ true)) ⊎ ((p : ℕ) → p / w ≡ k → has_page stale p ≡ false)
 stale-over [] w k = inr (λ p at. refl)
 stale-over (q ∷ rest) w k = ⊎_elim
     (λ here. inl (q, here, among-head q rest))
@@ -32,13 +32,13 @@ stale-over (q ∷ rest) w k = ⊎_elim
 -- above the pages
 module _ (digest : List ℕ → List ℕ) (t : Kept) (stale : List ℕ) (joined : IsJoinedBut digest t stale) where
   abbrev IsBelow : ℕ → Type 0
-  IsBelow p = (is_some (page_at t p) ≡ true) ⊎ (is_among stale p ≡ true)
+  IsBelow p = (is_some (page_at t p) ≡ true) ⊎ (has_page stale p ≡ true)
 
   over : (n k : ℕ) → n ≤ 20 → is_some (upper_at t n k) ≡ true → (p : ℕ) × (p / 2 ^ n ≡ k) × IsBelow p
   over zero k low is = ⊎_elim
       (λ among. (k, div-one k, inr among))
       (λ fresh. (k, div-one k, inl (sym (joined.roots k fresh).kept ∙ is)))
-      (cases_Bool (is_among stale k))
+      (cases_Bool (has_page stale k))
   over (suc n) k low is = ⊎_elim
       (λ found. (found.0, ap (λ i. found.0 / 2 ^ i) one ∙ found.1, inr found.2))
       (λ fresh. ⊎_elim
@@ -62,7 +62,7 @@ module _ (digest : List ℕ → List ℕ) (t : Tree) (m : Contents) (tree : IsTr
   page-needed p is = ⊎_elim
       (λ among. inr among)
       (λ fresh. inl ((tree.pages p fresh).used.0 is))
-      (cases_Bool (is_among t.touched p))
+      (cases_Bool (has_page t.touched p))
 
   pub upper-needed : (n k : ℕ) → is_some (upper_at t.nodes n k) ≡ true → (n ≤ 20) × ((p : ℕ) × (p / 2 ^ n ≡ k) × IsUsedOrTouched t m p)
   upper-needed n k is =
@@ -100,7 +100,7 @@ on-way p n (suc top) low = ⊎_elim
     (λ other. or_right _ _ (on-way p n top (omega arith)))
     (cases_eq n top)
 
-on-ways : (pages : List ℕ) (p n : ℕ) → is_among pages p ≡ true → n < 21 → list_any (is_at (by_place (n, p / 2 ^ n))) (ways pages) ≡ true
+on-ways : (pages : List ℕ) (p n : ℕ) → has_page pages p ≡ true → n < 21 → list_any (is_at (by_place (n, p / 2 ^ n))) (ways pages) ≡ true
 unfolding ways
 on-ways [] p n among low = absurd (true≢false (sym among))
 on-ways (q ∷ rest) p n among low = list_any-append (is_at (by_place (n, p / 2 ^ n))) (way q 21) (ways rest) ∙ ⊎_elim
@@ -108,11 +108,11 @@ on-ways (q ∷ rest) p n among low = list_any-append (is_at (by_place (n, p / 2 
     (λ other. or_right _ _ (on-ways rest p n (among-rest q rest p other among) low))
     (cases_eq p q)
   where
-    among-rest : (q : ℕ) (rest : List ℕ) (p : ℕ) → p ≢ q → is_among (q ∷ rest) p ≡ true → is_among rest p ≡ true
-    among-rest q rest p other among = ⊎_elim (λ is. is) (λ not. absurd (true≢false (sym among ∙ among-other q rest p other not))) (cases_Bool (is_among rest p))
+    among-rest : (q : ℕ) (rest : List ℕ) (p : ℕ) → p ≢ q → has_page (q ∷ rest) p ≡ true → has_page rest p ≡ true
+    among-rest q rest p other among = ⊎_elim (λ is. is) (λ not. absurd (true≢false (sym among ∙ among-other q rest p other not))) (cases_Bool (has_page rest p))
 
 -- some pages that hold each that is used or touched are as many as are kept at least, and each stands below 21 nodes
-module _ (digest : List ℕ → List ℕ) (t : Tree) (m : Contents) (pages : List ℕ) (tree : IsTreeOf digest t m) (all : (p : ℕ) → IsUsedOrTouched t m p → is_among pages p ≡ true) where
+module _ (digest : List ℕ → List ℕ) (t : Tree) (m : Contents) (pages : List ℕ) (tree : IsTreeOf digest t m) (all : (p : ℕ) → IsUsedOrTouched t m p → has_page pages p ≡ true) where
   pub pages-few : IsStrictlySortedBy nat_cmp (keys_of t.nodes.pages) → length t.nodes.pages ≤ length pages
   pages-few sorted =
       let few = length-le_from_is_member (eq_by_cmp_equiv nat_cmp_total) (keys_of t.nodes.pages) pages (IsDistinct-from_sorted nat_cmp (keys_of t.nodes.pages) sorted)

@@ -2,7 +2,8 @@
 use Rattle.std.proofs.Common.{◌≡◌, ◌≢◌, ◌⊎◌, inl, inr, ℕ, zero, suc, ◌+◌, ◌*◌, ◌/◌, ◌-◌, ◌<◌, ◌≤◌, List, [], ◌∷◌, ◌++◌, length, get_or, take, Bool, true, false, true≢false, cond, eqb, is_some, ◌||◌, refl, sym, ap, ◌∙◌, subst, arith, ⊎_elim, add-one}
 use Rattle.std.proofs.lemmas.Bool.{cases_eq, cases_Bool, eq-eqb, ne_eqb}
 use Rattle.std.proofs.lemmas.List.{take_more}
-use Rattle.mem_tree.specs.Tree.{Kept, is_among, upper_at}
+use Rattle.mem_plain.specs.Contents.{has_page}
+use Rattle.mem_tree.specs.Tree.{Kept, upper_at}
 use Rattle.mem_tree.specs.Costs.{ancestors, before_others, kept_above, kept_among, parents}
 use Rattle.mem_tree.specs.Levels.{joined_among, others_before}
 use Rattle.mem_tree.proofs.AmongLemmas.{among-head, among-tail, among-other}
@@ -46,28 +47,28 @@ added-new (x ∷ y ∷ xs) k other =
     let next : length (x ∷ y ∷ xs) - 1 ≡ suc (length (y ∷ xs) - 1) = omega arith in
     ap (λ ys. x ∷ ys) (added-new (y ∷ xs) k (inr (⊎_elim (λ none. absurd (omega (arith, none))) (λ apart e. apart (ap (λ i. get_or (x ∷ y ∷ xs) i 0) next ∙ e)) other)))
 
-head-or : (x : ℕ) (rest : List ℕ) (q : ℕ) → is_among (x ∷ rest) q ≡ true → (q ≡ x) ⊎ (is_among rest q ≡ true)
+head-or : (x : ℕ) (rest : List ℕ) (q : ℕ) → has_page (x ∷ rest) q ≡ true → (q ≡ x) ⊎ (has_page rest q ≡ true)
 head-or x rest q is = ⊎_elim
     (λ same. inl same)
-    (λ apart. ⊎_elim (λ held. inr held) (λ out. absurd (true≢false (sym is ∙ among-other x rest q apart out))) (cases_Bool (is_among rest q)))
+    (λ apart. ⊎_elim (λ held. inr held) (λ out. absurd (true≢false (sym is ∙ among-other x rest q apart out))) (cases_Bool (has_page rest q)))
     (cases_eq q x)
 
-first-there : (h : ℕ) (ps : List ℕ) → is_among (before_others h ps) h ≡ true
+first-there : (h : ℕ) (ps : List ℕ) → has_page (before_others h ps) h ≡ true
 first-there h [] = among-head h []
 first-there h (p ∷ ps) = ⊎_elim
-    (λ same. rw (eq-eqb h p same) (ap (is_among (p ∷ ps)) same ∙ among-head p ps))
+    (λ same. rw (eq-eqb h p same) (ap (has_page (p ∷ ps)) same ∙ among-head p ps))
     (λ apart. rw (ne_eqb h p apart) (among-head h (p ∷ ps)))
     (cases_eq h p)
 
-others-there : (h : ℕ) (ps : List ℕ) (q : ℕ) → is_among ps q ≡ true → is_among (before_others h ps) q ≡ true
+others-there : (h : ℕ) (ps : List ℕ) (q : ℕ) → has_page ps q ≡ true → has_page (before_others h ps) q ≡ true
 others-there h [] q is = absurd (true≢false (sym is))
-others-there h (p ∷ ps) q is = elim (eqb h p) as (λ b. is_among (cond b (p ∷ ps) (h ∷ p ∷ ps)) q ≡ true) [ true ↦ is | false ↦ among-tail h (p ∷ ps) q is ]
+others-there h (p ∷ ps) q is = elim (eqb h p) as (λ b. has_page (cond b (p ∷ ps) (h ∷ p ∷ ps)) q ≡ true) [ true ↦ is | false ↦ among-tail h (p ∷ ps) q is ]
 
-no-more-there : (h : ℕ) (ps : List ℕ) (q : ℕ) → is_among (before_others h ps) q ≡ true → (q ≡ h) ⊎ (is_among ps q ≡ true)
+no-more-there : (h : ℕ) (ps : List ℕ) (q : ℕ) → has_page (before_others h ps) q ≡ true → (q ≡ h) ⊎ (has_page ps q ≡ true)
 no-more-there h [] q is = head-or h [] q is
 no-more-there h (p ∷ ps) q is = by_test (eqb h p) is
   where
-    by_test : (b : Bool) → is_among (cond b (p ∷ ps) (h ∷ p ∷ ps)) q ≡ true → (q ≡ h) ⊎ (is_among (p ∷ ps) q ≡ true)
+    by_test : (b : Bool) → has_page (cond b (p ∷ ps) (h ∷ p ∷ ps)) q ≡ true → (q ≡ h) ⊎ (has_page (p ∷ ps) q ≡ true)
     by_test true held = inr held
     by_test false held = head-or h (p ∷ ps) q held
 
@@ -76,14 +77,14 @@ before-few h [] = omega arith
 before-few h (p ∷ ps) = elim (eqb h p) as (λ b. length (cond b (p ∷ ps) (h ∷ p ∷ ps)) ≤ length (p ∷ ps) + 1) [ true ↦ omega arith | false ↦ omega arith ]
 
 -- the parent of each place is among the parents, and each of these is the parent of some place
-pub parents-above : (xs : List ℕ) (q : ℕ) → is_among xs q ≡ true → is_among (parents xs) (q / 2) ≡ true
+pub parents-above : (xs : List ℕ) (q : ℕ) → has_page xs q ≡ true → has_page (parents xs) (q / 2) ≡ true
 parents-above [] q is = absurd (true≢false (sym is))
 parents-above (x ∷ xs) q is = ⊎_elim
-    (λ same. subst (λ p. is_among (parents (x ∷ xs)) (p / 2) ≡ true) (sym same) (first-there (x / 2) (parents xs)))
+    (λ same. subst (λ p. has_page (parents (x ∷ xs)) (p / 2) ≡ true) (sym same) (first-there (x / 2) (parents xs)))
     (λ rest. others-there (x / 2) (parents xs) (q / 2) (parents-above xs q rest))
     (head-or x xs q is)
 
-pub parents-below : (xs : List ℕ) (h : ℕ) → is_among (parents xs) h ≡ true → (q : ℕ) × (is_among xs q ≡ true) × (q / 2 ≡ h)
+pub parents-below : (xs : List ℕ) (h : ℕ) → has_page (parents xs) h ≡ true → (q : ℕ) × (has_page xs q ≡ true) × (q / 2 ≡ h)
 parents-below [] h is = absurd (true≢false (sym is))
 parents-below (x ∷ xs) h is = ⊎_elim
     (λ same. (x, among-head x xs, sym same))
@@ -110,7 +111,7 @@ joined-last t n (x ∷ xs) k = let rest = joined-last t n xs k in omega (arith, 
 
 -- the nodes that are kept among joined ones
 pub kept-is-joined : (before after : Kept) (n : ℕ) (ks : List ℕ)
-    → ((k : ℕ) → is_among ks k ≡ true → is_some (upper_at after (n + 1) k) ≡ (is_some (upper_at before n (2 * k)) || is_some (upper_at before n (2 * k + 1))))
+    → ((k : ℕ) → has_page ks k ≡ true → is_some (upper_at after (n + 1) k) ≡ (is_some (upper_at before n (2 * k)) || is_some (upper_at before n (2 * k + 1))))
     → joined_among before n ks ≡ kept_among after (n + 1) ks
 kept-is-joined before after n [] all = refl
 kept-is-joined before after n (k ∷ ks) all =

@@ -2,8 +2,9 @@
 use Rattle.std.proofs.Common.{◌≡◌, ◌≢◌, ◌⊎◌, inl, inr, ℕ, ◌+◌, ◌-◌, ◌*◌, ◌/◌, ◌^◌, ◌<◌, ◌≤◌, List, [], ◌∷◌, ◌++◌, true, false, true≢false, refl, sym, ap, ◌∙◌, subst, arith, ⊎_elim}
 use Rattle.std.proofs.Math.Nat.{div-one}
 use Rattle.std.proofs.lemmas.Bool.{cases_eq, cases_Bool}
+use Rattle.mem_plain.specs.Contents.{has_page}
 use Rattle.merkle_nodes.specs.Node.{digest_at}
-use Rattle.mem_tree.specs.Tree.{Kept, IsJoinedAbove, IsJoinedBut, IsRoot, is_among, page_at, upper_at}
+use Rattle.mem_tree.specs.Tree.{Kept, IsJoinedAbove, IsJoinedBut, IsRoot, page_at, upper_at}
 use Rattle.mem_tree.specs.Levels.{IsJoinedFrom, IsJoinedOver}
 use Rattle.mem_tree.proofs.AmongLemmas.{among-last, among-front, among-but_last}
 use Rattle.mem_tree.proofs.MemoryLemmas.{up-one}
@@ -37,7 +38,7 @@ module _ (digest : List ℕ → List ℕ) (t t' : Kept) (page : ℕ) (empties : 
           (λ some. upper_kept i j (inl some))
           (cases_eq i 0)
 
-  pub over-more : (stale waiting waiting' : List ℕ) → IsRoot (upper_at t' 0 page) (page_at t' page) → ((p : ℕ) → p ≢ page → is_among waiting' p ≡ false → is_among waiting p ≡ false)
+  pub over-more : (stale waiting waiting' : List ℕ) → IsRoot (upper_at t' 0 page) (page_at t' page) → ((p : ℕ) → p ≢ page → has_page waiting' p ≡ false → has_page waiting p ≡ false)
       → IsJoinedOver digest t stale waiting → IsJoinedOver digest t' (stale ++ page ∷ []) waiting'
   over-more stale waiting waiting' root tells is = record {
     roots = λ p fresh. ⊎_elim
@@ -47,7 +48,7 @@ module _ (digest : List ℕ → List ℕ) (t t' : Kept) (page : ℕ) (empties : 
     above = λ i k low none.
         let apart : page / 2 ^ (i + 1) ≢ k = λ at. true≢false (sym (among-last stale page) ∙ (none page at).0) in
         other-above i k apart (is.above i k low (λ q at. (
-          ⊎_elim (λ held. absurd (true≢false (sym (among-front stale page q held) ∙ (none q at).0))) (λ out. out) (cases_Bool (is_among stale q)),
+          ⊎_elim (λ held. absurd (true≢false (sym (among-front stale page q held) ∙ (none q at).0))) (λ out. out) (cases_Bool (has_page stale q)),
           tells q (λ e. apart (ap (λ x. x / 2 ^ (i + 1)) (sym e) ∙ at)) (none q at).1,
         )));
     top = λ i k high. upper_kept i k (inl (λ e. absurd (omega (arith, e, high)))) ∙ is.top i k high;
@@ -86,13 +87,13 @@ module _ (digest : List ℕ → List ℕ) (t t' : Kept) (page : ℕ) (empties : 
 
 -- nodes above none of some pages stay, and so do pages
 pub stays-over : (digest : List ℕ → List ℕ) (t t' : Kept) (keys stale : List ℕ) → t'.empties ≡ t.empties → ((p : ℕ) → page_at t' p ≡ page_at t p)
-    → ((n k : ℕ) → ((p : ℕ) → is_among stale p ≡ true → p / 2 ^ n ≢ k) → upper_at t' n k ≡ upper_at t n k) → ((n k : ℕ) → 20 < n → upper_at t' n k ≡ upper_at t n k)
-    → ((p : ℕ) → is_among stale p ≡ true → is_among keys p ≡ true) → IsJoinedBut digest t keys → IsJoinedBut digest t' keys
+    → ((n k : ℕ) → ((p : ℕ) → has_page stale p ≡ true → p / 2 ^ n ≢ k) → upper_at t' n k ≡ upper_at t n k) → ((n k : ℕ) → 20 < n → upper_at t' n k ≡ upper_at t n k)
+    → ((p : ℕ) → has_page stale p ≡ true → has_page keys p ≡ true) → IsJoinedBut digest t keys → IsJoinedBut digest t' keys
 stays-over digest t t' keys stale empties pages elsewhere high of is = record {
-  roots = λ p fresh. subst (λ o. IsRoot o (page_at t' p)) (sym (elsewhere 0 p (λ q held e. true≢false (sym (of q held) ∙ (ap (is_among keys) (sym (div-one q) ∙ e) ∙ fresh)))))
+  roots = λ p fresh. subst (λ o. IsRoot o (page_at t' p)) (sym (elsewhere 0 p (λ q held e. true≢false (sym (of q held) ∙ (ap (has_page keys) (sym (div-one q) ∙ e) ∙ fresh)))))
       (subst (IsRoot (upper_at t 0 p)) (sym (pages p)) (is.roots p fresh));
   above = λ n k low fresh.
-      let apart : (m j : ℕ) → ((q : ℕ) → q / 2 ^ m ≡ j → q / 2 ^ (n + 1) ≡ k) → (q : ℕ) → is_among stale q ≡ true → q / 2 ^ m ≢ j = λ m j up q held e. true≢false (sym (of q held) ∙ fresh q (up q e)) in
+      let apart : (m j : ℕ) → ((q : ℕ) → q / 2 ^ m ≡ j → q / 2 ^ (n + 1) ≡ k) → (q : ℕ) → has_page stale q ≡ true → q / 2 ^ m ≢ j = λ m j up q held e. true≢false (sym (of q held) ∙ fresh q (up q e)) in
       of-two digest _ _ _ _ _ _ _ _ _ _ (elsewhere (n + 1) k (apart (n + 1) k (λ q e. e)))
       (elsewhere n (2 * k) (apart n (2 * k) (λ q e. up-one q n ∙ (ap (λ x. x / 2) e ∙ even k)))) (elsewhere n (2 * k + 1) (apart n (2 * k + 1) (λ q e. up-one q n ∙ (ap (λ x. x / 2) e ∙ odd k))))
       (ap (λ es. digest_at es (7 + n)) empties) (ap (λ es. digest_at es (7 + (n + 1))) empties) (is.above n k low fresh);
@@ -106,11 +107,11 @@ stays-over digest t t' keys stale empties pages elsewhere high of is = record {
     odd k = omega arith
 
 -- one page more among some
-pub among-one : (xs : List ℕ) (page p : ℕ) → is_among (xs ++ page ∷ []) p ≡ true → (p ≡ page) ⊎ (is_among xs p ≡ true)
+pub among-one : (xs : List ℕ) (page p : ℕ) → has_page (xs ++ page ∷ []) p ≡ true → (p ≡ page) ⊎ (has_page xs p ≡ true)
 among-one xs page p is = ⊎_elim
     (λ same. inl same)
     (λ other. ⊎_elim
     (λ held. inr held)
     (λ out. absurd (true≢false (sym is ∙ among-but_last xs page p other out)))
-    (cases_Bool (is_among xs p)))
+    (cases_Bool (has_page xs p)))
     (cases_eq p page)

@@ -1,15 +1,14 @@
--- To believe: `Tree`, `is_among` and `SameBut`, in which the promise of a refreshed tree is stated; and `page_at`, `upper_at` and
+-- To believe: `Tree` and `SameBut`, in which the promise of a refreshed tree is stated; and `page_at`, `upper_at` and
 -- `IsUsedOrTouched`, in which it is stated what a tree keeps. The rest is derived: when a kept tree is the tree of a memory, but for its
 -- touched pages, the relation that every call of `MemTree` keeps, and from which its root and its paths are those of the definition.
 use Rattle.std.specs.Prelude.{◌≡◌, ℕ, ◌+◌, ◌-◌, ◌*◌, ◌/◌, ◌^◌, ◌<◌, ◌⊎◌, List, [], Option, None, Bool, true, false, ◌||◌, is_some}
 use Rattle.std.specs.Ordering.{nat_cmp, ordering_then}
 use Rattle.std.specs.declared.cmp.Ordering.{Ordering}
-use Rattle.std.specs.List.{list_any}
 use Rattle.std.specs.Map.{lookup}
 use Rattle.std.specs.BTreeMap.{is_at}
 use Rattle.rd_base.specs.declared.digest.Digest32.{Digest32}
 use Rattle.digest_core.specs.Text.{node_text}
-use Rattle.mem_plain.specs.Contents.{Contents, IsUsed}
+use Rattle.mem_plain.specs.Contents.{Contents, IsUsed, has_page}
 use Rattle.merkle_nodes.specs.Node.{digest_at}
 use Rattle.mem_tree.specs.Memory.{SamePage}
 use Rattle.mem_tree.specs.Page.{place_of, heap_node, kept_or, AreEmpty, IsMadeTree, IsPageOf}
@@ -30,10 +29,6 @@ pub record Tree : Type 0 where
   pub nodes : Kept
   pub touched : List ℕ
   pub failed : Bool
-
--- a page is among these
-abbrev pub is_among : List ℕ → ℕ → Bool
-is_among pages p = list_any (is_at (nat_cmp p)) pages
 
 -- the subtree of a page, if it is kept
 abbrev pub page_at : Kept → ℕ → Option PageTree
@@ -70,8 +65,8 @@ pub record IsRoot (node : Option Digest32) (tree : Option PageTree) : Type 0 whe
 -- each node that is neither at nor above a stale page is the root of its page, or the digest of the two below it; and none is
 -- kept above level 27. So nothing is kept above pages but over pages that are kept, or stale
 pub record IsJoinedBut (digest : List ℕ → List ℕ) (t : Kept) (stale : List ℕ) : Type 0 where
-  pub roots : (p : ℕ) → is_among stale p ≡ false → IsRoot (upper_at t 0 p) (page_at t p)
-  pub above : (n k : ℕ) → n < 20 → ((p : ℕ) → p / 2 ^ (n + 1) ≡ k → is_among stale p ≡ false) → IsJoinedAbove digest t n k
+  pub roots : (p : ℕ) → has_page stale p ≡ false → IsRoot (upper_at t 0 p) (page_at t p)
+  pub above : (n k : ℕ) → n < 20 → ((p : ℕ) → p / 2 ^ (n + 1) ≡ k → has_page stale p ≡ false) → IsJoinedAbove digest t n k
   pub top : (n k : ℕ) → 20 < n → upper_at t n k ≡ None
 
 -- the heap of each page is the tree over its chunks, be the page stale or not
@@ -81,7 +76,7 @@ AllMade digest t = (p : ℕ) → IsMadeTree digest (page_at t p)
 -- each page that isn't stale is the memory's: it is kept if and only if it holds a byte other than 0; and the nodes above are joined. So
 -- above pages nothing is kept but over used or stale pages (`only_what_is_needed_is_kept`)
 pub record IsOver (digest : List ℕ → List ℕ) (t : Kept) (stale : List ℕ) (m : Contents) : Type 0 where
-  pub pages : (p : ℕ) → is_among stale p ≡ false → IsPageOf (page_at t p) m p
+  pub pages : (p : ℕ) → has_page stale p ≡ false → IsPageOf (page_at t p) m p
   pub joined : IsJoinedBut digest t stale
 
 -- the tree is a memory's, but for the touched pages
@@ -90,21 +85,21 @@ IsTreeOf digest t m = IsOver digest t.nodes t.touched m
 
 -- a page holds a byte other than 0, or was touched since the last refresh
 abbrev pub IsUsedOrTouched : Tree → Contents → ℕ → Type 0
-IsUsedOrTouched t m p = IsUsed m p ⊎ (is_among t.touched p ≡ true)
+IsUsedOrTouched t m p = IsUsed m p ⊎ (has_page t.touched p ≡ true)
 
 -- each page that a memory has in use is touched
 abbrev pub HasTouched : Tree → Contents → Type 0
-HasTouched tree m = (p : ℕ) → IsUsed m p → is_among tree.touched p ≡ true
+HasTouched tree m = (p : ℕ) → IsUsed m p → has_page tree.touched p ≡ true
 
 -- two memories are alike outside these pages
 abbrev pub SameBut : List ℕ → Contents → Contents → Type 0
-SameBut pages m n = (p : ℕ) → is_among pages p ≡ false → SamePage m n p
+SameBut pages m n = (p : ℕ) → has_page pages p ≡ false → SamePage m n p
 
 -- what holds of every tree: the empty node of each level is at its place; each touched page is one of the 2^20 pages; each heap
 -- is made of its chunks; the nodes above are joined, but for those of touched pages, and for none of them unless a refresh failed
 pub record IsWhole (digest : List ℕ → List ℕ) (t : Tree) : Type 0 where
   pub empty : AreEmpty digest t.nodes.empties
-  pub pages : (p : ℕ) → is_among t.touched p ≡ true → p < 2 ^ 20
+  pub pages : (p : ℕ) → has_page t.touched p ≡ true → p < 2 ^ 20
   pub made : AllMade digest t.nodes
   pub joined : IsJoinedBut digest t.nodes t.touched
   pub whole : t.failed ≡ false → IsJoinedBut digest t.nodes []

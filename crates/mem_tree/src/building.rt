@@ -1,9 +1,9 @@
 //! The nodes of a memory, from scratch.
 ghost use Rattle.std.specs.Prelude.{◌≡◌, ◌<◌, ◌^◌, ℕ, [], length, IfOk, All, true};
 ghost use Rattle.std.specs.List.{AllZip};
-ghost use Rattle.mem_plain.specs.Contents.{IsUsed, no_bytes};
+ghost use Rattle.mem_plain.specs.Contents.{IsUsed, no_bytes, has_page};
 ghost use Rattle.mem_tree.specs.Page.{AreEmpty, IsPageOf, IsPageTree};
-ghost use Rattle.mem_tree.specs.Tree.{kept_of, page_at, AllMade, IsJoinedBut, is_among};
+ghost use Rattle.mem_tree.specs.Tree.{kept_of, page_at, AllMade, IsJoinedBut};
 
 use crate::kept::{Nodes, PageTree, Renewed};
 use crate::page::{PageOf, page_tree_after};
@@ -20,7 +20,7 @@ use std::thread::Threads;
 
 /// The pages that hold a byte other than 0, in order.
 fn used_pages(alloc: Global, mem: &PlainMem) -> Result<Vec<u32>, Memory>
-    ensures used { IfOk result (λ pages. (p : ℕ) → IsUsed mem.now p → is_among pages.items p ≡ true) }
+    ensures used { IfOk result (λ pages. (p : ℕ) → IsUsed mem.now p → has_page pages.items p ≡ true) }
     ensures pages { IfOk result (λ pages. All (λ page. page < 2 ^ 20) pages.items) }
 {
     let mut pages = Vec::new(alloc);

@@ -1,7 +1,8 @@
 //! The nodes above changed pages, renewed level by level, each once.
 ghost use Rattle.std.specs.Prelude.{◌≡◌, ◌≢◌, ◌⊎◌, ◌+◌, ◌*◌, ◌/◌, ◌≤◌, ◌<◌, ◌^◌, ℕ, List, [], length, OnOk, OnErr, IfOk, false, true};
+ghost use Rattle.mem_plain.specs.Contents.{has_page};
 ghost use Rattle.mem_tree.specs.Page.{AreEmpty};
-ghost use Rattle.mem_tree.specs.Tree.{kept_of, upper_at, IsJoinedAbove, IsJoinedBut, is_among};
+ghost use Rattle.mem_tree.specs.Tree.{kept_of, upper_at, IsJoinedAbove, IsJoinedBut};
 ghost use Rattle.mem_tree.specs.Levels.{IsJoinedFrom, others_before};
 ghost use Rattle.mem_tree.specs.Costs.{kept_above, kept_among, parents as parents_of};
 
@@ -27,8 +28,8 @@ fn add_once(places: &mut Vec<u32>, place: u32) -> Result<(), Memory>
 /// The places of the nodes above nodes of a level, each once if the places are in order. An `Err` is out of memory.
 fn parents(alloc: Global, places: &[u32]) -> Result<Vec<u32>, Memory>
     ensures exactly { IfOk result (λ v. v.items ≡ parents_of places.now) }
-    ensures above { IfOk result (λ v. (q : ℕ) → is_among places.now q ≡ true → is_among v.items (q / 2) ≡ true) }
-    ensures below { IfOk result (λ v. (h : ℕ) → is_among v.items h ≡ true → (q : ℕ) × (is_among places.now q ≡ true) × (q / 2 ≡ h)) }
+    ensures above { IfOk result (λ v. (q : ℕ) → has_page places.now q ≡ true → has_page v.items (q / 2) ≡ true) }
+    ensures below { IfOk result (λ v. (h : ℕ) → has_page v.items h ≡ true → (q : ℕ) × (has_page places.now q ≡ true) × (q / 2 ≡ h)) }
     ensures few { IfOk result (λ v. length v.items ≤ length places.now) }
     ensures some { OnErr result (0 < length places.now) }
 {
@@ -50,10 +51,10 @@ impl Nodes {
         steps: &mut Steps<L>,
     ) -> Result<(), Memory>
         requires level { above < 20 }
-        requires places { (k : ℕ) → is_among places.now k ≡ true → k < 2 ^ 20 }
+        requires places { (k : ℕ) → has_page places.now k ≡ true → k < 2 ^ 20 }
         requires empty { AreEmpty C.digest_of self.old.empties }
-        ensures joined { OnOk result ((k : ℕ) → is_among places.now k ≡ true → IsJoinedAbove C.digest_of (kept_of self.new) above k) }
-        ensures elsewhere { (n k : ℕ) → (n ≢ above + 1) ⊎ (is_among places.now k ≡ false) → upper_at (kept_of self.new) n k ≡ upper_at (kept_of self.old) n k }
+        ensures joined { OnOk result ((k : ℕ) → has_page places.now k ≡ true → IsJoinedAbove C.digest_of (kept_of self.new) above k) }
+        ensures elsewhere { (n k : ℕ) → (n ≢ above + 1) ⊎ (has_page places.now k ≡ false) → upper_at (kept_of self.new) n k ≡ upper_at (kept_of self.old) n k }
         ensures pages { self.new.pages ≡ self.old.pages }
         ensures empties { self.new.empties ≡ self.old.empties }
         ensures some { OnErr result (0 < length places.now) }
@@ -77,10 +78,10 @@ impl Nodes {
         pages: Vec<u32>,
         steps: &mut Steps<L>,
     ) -> Result<(), Memory>
-        requires pages { (p : ℕ) → is_among pages.items p ≡ true → p < 2 ^ 20 }
+        requires pages { (p : ℕ) → has_page pages.items p ≡ true → p < 2 ^ 20 }
         requires empty { AreEmpty C.digest_of self.old.empties }
         ensures joined { OnOk result (IsJoinedFrom C.digest_of (kept_of self.old) 0 pages.items → IsJoinedBut C.digest_of (kept_of self.new) []) }
-        ensures elsewhere { (n k : ℕ) → ((p : ℕ) → is_among pages.items p ≡ true → p / 2 ^ n ≢ k) → upper_at (kept_of self.new) n k ≡ upper_at (kept_of self.old) n k }
+        ensures elsewhere { (n k : ℕ) → ((p : ℕ) → has_page pages.items p ≡ true → p / 2 ^ n ≢ k) → upper_at (kept_of self.new) n k ≡ upper_at (kept_of self.old) n k }
         ensures top { (n k : ℕ) → 20 < n → upper_at (kept_of self.new) n k ≡ upper_at (kept_of self.old) n k }
         ensures pages { self.new.pages ≡ self.old.pages }
         ensures empties { self.new.empties ≡ self.old.empties }

@@ -1,9 +1,10 @@
 //! The nodes of a tree that are kept, and how they are brought up to a memory.
 ghost use Rattle.std.specs.Prelude.{◌≡◌, ◌≢◌, ◌⊎◌, ◌+◌, ◌-◌, ◌*◌, ◌/◌, ◌≤◌, ◌<◌, ◌^◌, ◌||◌, ◌++◌, ◌∷◌, ℕ, List, [], length, IfOk, OnOk, OnErr, None, is_some, false, true};
 ghost use Rattle.digest_core.specs.Text.{node_text as node_string};
+ghost use Rattle.mem_plain.specs.Contents.{has_page};
 ghost use Rattle.merkle_nodes.specs.Node.{digest_at};
 ghost use Rattle.mem_tree.specs.Page.{AreEmpty, IsMadeTree, IsPageOf, kept_or};
-ghost use Rattle.mem_tree.specs.Tree.{kept_of, page_at, page_node as node_in_page, upper_at, upper_node as node_above, AllMade, IsJoinedBut, IsRoot, is_among};
+ghost use Rattle.mem_tree.specs.Tree.{kept_of, page_at, page_node as node_in_page, upper_at, upper_node as node_above, AllMade, IsJoinedBut, IsRoot};
 ghost use Rattle.mem_tree.specs.Costs.{changed_chunks, has_changed, kept_above, page_changes, page_digests, page_renewals, stale_pages};
 ghost use Rattle.mem_tree.specs.Levels.{IsJoinedFrom, as_number};
 
@@ -245,18 +246,18 @@ impl Nodes {
         mem: &PlainMem,
         steps: &mut Steps<L>,
     ) -> Result<Vec<u32>, Memory>
-        requires pages { (p : ℕ) → is_among touched.now.pages.now.keys p ≡ true → p < 2 ^ 20 }
+        requires pages { (p : ℕ) → has_page touched.now.pages.now.keys p ≡ true → p < 2 ^ 20 }
         requires empty { AreEmpty C.digest_of self.old.empties }
         requires made { AllMade C.digest_of (kept_of self.old) }
         requires joined { IsJoinedBut C.digest_of (kept_of self.old) touched.now.pages.now.keys }
         requires whole { touched.now.failed ≡ false → IsJoinedBut C.digest_of (kept_of self.old) [] }
-        ensures pages { IfOk result (λ stale. ((p : ℕ) → is_among touched.now.pages.now.keys p ≡ false → IsPageOf (page_at (kept_of self.old) p) mem.now p) →
+        ensures pages { IfOk result (λ stale. ((p : ℕ) → has_page touched.now.pages.now.keys p ≡ false → IsPageOf (page_at (kept_of self.old) p) mem.now p) →
             (p : ℕ) → IsPageOf (page_at (kept_of self.new) p) mem.now p) }
-        ensures others { (p : ℕ) → is_among touched.now.pages.now.keys p ≡ false → page_at (kept_of self.new) p ≡ page_at (kept_of self.old) p }
+        ensures others { (p : ℕ) → has_page touched.now.pages.now.keys p ≡ false → page_at (kept_of self.new) p ≡ page_at (kept_of self.old) p }
         ensures made { AllMade C.digest_of (kept_of self.new) }
         ensures joined { IsJoinedBut C.digest_of (kept_of self.new) touched.now.pages.now.keys }
         ensures stale { IfOk result (λ stale. IsJoinedFrom C.digest_of (kept_of self.new) 0 stale.items) }
-        ensures among { IfOk result (λ stale. (p : ℕ) → is_among stale.items p ≡ true → is_among touched.now.pages.now.keys p ≡ true) }
+        ensures among { IfOk result (λ stale. (p : ℕ) → has_page stale.items p ≡ true → has_page touched.now.pages.now.keys p ≡ true) }
         ensures empties { self.new.empties ≡ self.old.empties }
         ensures count { IfOk result (λ stale. length stale.items ≤ length touched.now.pages.now.keys) }
         ensures choice { IfOk result (λ stale. stale.items ≡ stale_pages touched.now.failed (kept_of self.old) mem.now touched.now.pages.now.keys) }
@@ -287,14 +288,14 @@ impl Nodes {
         mem: &PlainMem,
         steps: &mut Steps<L>,
     ) -> Result<(), Memory>
-        requires pages { (p : ℕ) → is_among touched.now.pages.now.keys p ≡ true → p < 2 ^ 20 }
+        requires pages { (p : ℕ) → has_page touched.now.pages.now.keys p ≡ true → p < 2 ^ 20 }
         requires empty { AreEmpty C.digest_of self.old.empties }
         requires made { AllMade C.digest_of (kept_of self.old) }
         requires joined { IsJoinedBut C.digest_of (kept_of self.old) touched.now.pages.now.keys }
         requires whole { touched.now.failed ≡ false → IsJoinedBut C.digest_of (kept_of self.old) [] }
-        ensures pages { OnOk result (((p : ℕ) → is_among touched.now.pages.now.keys p ≡ false → IsPageOf (page_at (kept_of self.old) p) mem.now p) →
+        ensures pages { OnOk result (((p : ℕ) → has_page touched.now.pages.now.keys p ≡ false → IsPageOf (page_at (kept_of self.old) p) mem.now p) →
             (p : ℕ) → IsPageOf (page_at (kept_of self.new) p) mem.now p) }
-        ensures others { (p : ℕ) → is_among touched.now.pages.now.keys p ≡ false → page_at (kept_of self.new) p ≡ page_at (kept_of self.old) p }
+        ensures others { (p : ℕ) → has_page touched.now.pages.now.keys p ≡ false → page_at (kept_of self.new) p ≡ page_at (kept_of self.old) p }
         ensures made { AllMade C.digest_of (kept_of self.new) }
         ensures joined { IsJoinedBut C.digest_of (kept_of self.new) touched.now.pages.now.keys }
         ensures whole { OnOk result (IsJoinedBut C.digest_of (kept_of self.new) []) }

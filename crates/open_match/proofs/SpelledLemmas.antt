@@ -27,14 +27,14 @@ use Rattle.mem_tree.specs.InputTree.{input_chunk, input_leaf, input_node, input_
 use Rattle.rv_step.specs.State.{State}
 use Rattle.rv_step.specs.Step.{step, state_at}
 use Rattle.rv_step.specs.Valid.{IsValid, IsRegisterFile}
-use Rattle.rv_step.specs.Named.{kept, once, named, named_by, first_source, second_source, destination}
+use Rattle.rv_step.specs.Named.{if_named, once, named, named_by, first_source, second_source, destination}
 use Rattle.rv_step.specs.Alike.{named_at}
 use Rattle.rv_step.specs.NextEffect.{seen_of, fetched}
 use Rattle.state_commit.specs.StateRoot.{ctl_of, memory_digest, registers_by, storage_by, root_in, state_text_in}
 use Rattle.open_proof.specs.OpenedChunk.{siblings_of, opening_at, fetch_of_state}
 use Rattle.open_proof.specs.Shown.{tree_by, operand_of_state, input_of_state}
 use Rattle.open_proof.specs.Facts.{proof_by}
-use Rattle.open_proof.specs.PlainProof.{register_siblings, register_opening, input_siblings, input_opening_at, registers_opened, plain_facts, plain_proof}
+use Rattle.open_proof.specs.PlainProof.{register_siblings, opened_register, input_siblings, input_opening_at, registers_opened, plain_facts, plain_proof}
 use Rattle.open_proof.specs.PlainClaim.{plain_claim}
 use Rattle.open_proof.specs.declared.facts.Facts.{Facts}
 use Rattle.open_proof.specs.declared.facts.HeldInput.{HeldInput}
@@ -43,7 +43,7 @@ use Rattle.open_proof.specs.declared.facts.HeldRegisters.TheVariants.{Whole, Ope
 use Rattle.bisect_game.specs.declared.settled.Kind.TheVariants as kind
 use Rattle.bisect_game.specs.Bisection.{cuts_from, cuts}
 use Rattle.step_referee.specs.MachineTruth.{machine_truth}
-use Rattle.proof_wire.specs.Wire.{word, status, control, registers, block, digest, opening, input_opening, optional, flag, proof_form, wire_form}
+use Rattle.proof_wire.specs.Wire.{in_four_bytes, status, control, registers, block, digest, opening, input_opening, optional, flagged, proof_form, wire_form}
 use Rattle.proof_wire.specs.Wire as wire
 use Rattle.open_match.specs.Laws.{TrueAnswersHaveWireForms}
 
@@ -67,7 +67,7 @@ small-zeros zero k = omega arith
 small-zeros (suc n) zero = omega arith
 small-zeros (suc n) (suc k) = small-zeros n k
 
-words-all : (xs : List ℕ) → ((r : ℕ) → slice_index xs r < 2 ^ 32) → AllByRecursion (λ x. (word x).fits) xs
+words-all : (xs : List ℕ) → ((r : ℕ) → slice_index xs r < 2 ^ 32) → AllByRecursion (λ x. (in_four_bytes x).fits) xs
 words-all [] each = tt
 words-all (x ∷ xs) each = (each 0, words-all xs (λ r. each (suc r)))
 
@@ -92,30 +92,30 @@ status-fits Running code = (omega arith, omega arith)
 status-fits (Exited n) code = (omega arith, code)
 status-fits (Trapped n) code = (omega arith, code)
 
-two-flags : {A B : Type 0} (f : Option A) (g : Option B) → flag 1 f + flag 2 g < 256
+two-flags : {A B : Type 0} (f : Option A) (g : Option B) → flagged 1 f + flagged 2 g < 256
 two-flags None None = omega arith
 two-flags None (Some y) = omega arith
 two-flags (Some x) None = omega arith
 two-flags (Some x) (Some y) = omega arith
 
-flag-small : {A : Type 0} (n : ℕ) (f : Option A) → flag n f ≤ n
-flag-small n None = omega arith
-flag-small n (Some x) = omega arith
+flagged-small : {A : Type 0} (n : ℕ) (f : Option A) → flagged n f ≤ n
+flagged-small n None = omega arith
+flagged-small n (Some x) = omega arith
 
-three-flags : {A B C : Type 0} (f : Option A) (g : Option B) (h : Option C) → flag 1 f + flag 2 g + flag 4 h < 256
-three-flags f g h = omega (arith, flag-small 1 f, flag-small 2 g, flag-small 4 h)
+three-flags : {A B C : Type 0} (f : Option A) (g : Option B) (h : Option C) → flagged 1 f + flagged 2 g + flagged 4 h < 256
+three-flags f g h = omega (arith, flagged-small 1 f, flagged-small 2 g, flagged-small 4 h)
 
-one-kept : (test : Bool) (r : ℕ) → length (kept test r) ≤ 1
-one-kept true r = omega arith
-one-kept false r = omega arith
+one-if_named : (test : Bool) (r : ℕ) → length (if_named test r) ≤ 1
+one-if_named true r = omega arith
+one-if_named false r = omega arith
 
 few-once : (a b c : ℕ) → length (once a b c) ≤ 3
 few-once a b c =
     let second = not (b == 0) && not (b == a) in
     let third = not (c == 0) && not (c == a) && not (c == b) in
-    let x = length-append (kept (not (a == 0)) a) (kept second b ++ kept third c) in
-    let y = length-append (kept second b) (kept third c) in
-    omega (arith, x, y, one-kept (not (a == 0)) a, one-kept second b, one-kept third c)
+    let x = length-append (if_named (not (a == 0)) a) (if_named second b ++ if_named third c) in
+    let y = length-append (if_named second b) (if_named third c) in
+    omega (arith, x, y, one-if_named (not (a == 0)) a, one-if_named second b, one-if_named third c)
 
 few-by : (o : Option Instr) → length (named_by o) ≤ 3
 unfolding named
@@ -242,8 +242,8 @@ module _ (by : List ℕ → List ℕ) (is_digest : (bytes : List ℕ) → length
   held-fit registers_.Whole xs names file few = registers-fit xs file
   held-fit registers_.Tree xs names file few = (
     node-block (register_leaf xs) 5 0,
-    omega (arith, length-map names (register_opening by xs), few),
-    all-map (λ (o : RegOpening). (wire.register_opening o).fits) (register_opening by xs) names (λ r. (file.words r, register-path xs r)),
+    omega (arith, length-map names (opened_register by xs), few),
+    all-map (λ (o : RegOpening). (wire.register_opening o).fits) (opened_register by xs) names (λ r. (file.words r, register-path xs r)),
   )
 
   tree-fits : (scheme : InputScheme) (xs : List ℕ) → length xs ≤ 1048576 → TreeFits (tree_by by scheme xs)

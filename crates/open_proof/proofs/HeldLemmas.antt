@@ -34,8 +34,8 @@ use Rattle.open_proof.specs.Called.{address_needed}
 use Rattle.open_proof.specs.OpenedChunk.{IsShown, IsShownAt, fetch_of_state}
 use Rattle.open_proof.specs.Facts.{byte_needed}
 use Rattle.open_proof.specs.Next.{held_by, step_held}
-use Rattle.open_proof.specs.SeenHeld.{number_shown, offering, byte_in, byte_shown, seen_held}
-use Rattle.open_proof.specs.Shown.{tree_by, tree_of, ShowsInput}
+use Rattle.open_proof.specs.SeenHeld.{number_shown, offering, opened_byte, byte_shown, seen_held}
+use Rattle.open_proof.specs.Shown.{tree_by, tree_of_state, ShowsInput}
 use Rattle.open_proof.specs.LawsBelow.{StepLaws}
 use Rattle.open_proof.specs.declared.facts.HeldInput.{HeldInput}
 
@@ -155,7 +155,7 @@ module _ (laws : StepLaws) (digest : List ℕ → List ℕ) where
       → byte_shown (Some t) chunk k ≡ byte_or_ones input k
   shown-byte input t chunk k len shown = ⊎_elim
       (λ low. inside chunk (lt-ltb k t.len low) low (subst (ShowsInput digest input chunk) (ap (λ b. cond b (Some k) None) (lt-ltb k t.len low)) shown))
-      (λ high. ap (λ b. cond b (byte_in chunk k) (2 ^ 32 - 1)) (le-ltb k t.len high) ∙ sym (byte-outside input k (2 ^ 32 - 1) (omega arith)))
+      (λ high. ap (λ b. cond b (opened_byte chunk k) (2 ^ 32 - 1)) (le-ltb k t.len high) ∙ sym (byte-outside input k (2 ^ 32 - 1) (omega arith)))
       (cases_lt k t.len)
     where
       inside : (chunk : Option InOpening) → ltb k t.len ≡ true → k < t.len → ShowsInput digest input chunk (Some k) → byte_shown (Some t) chunk k ≡ byte_or_ones input k
@@ -168,8 +168,8 @@ module _ (laws : StepLaws) (digest : List ℕ → List ℕ) where
 
   -- what is held after an instruction
   held-instr : (operand : Option Opening) (chunk : Option InOpening) (s : State) (i : Instr) → IsShownAt digest s.memory operand (address_needed (needed_in (scheme_of s.version).input s.regs i))
-      → ShowsInput digest s.input chunk (byte_needed (tree_of digest s) (needed_in (scheme_of s.version).input s.regs i))
-      → held_after digest operand (held_of digest s) (effect_with (offered (offering (tree_of digest s)) (byte_shown (tree_of digest s) chunk)) s.regs s.pc (number_shown operand) i) ≡ held_of digest (after_effect s (effect_at s i))
+      → ShowsInput digest s.input chunk (byte_needed (tree_of_state digest s) (needed_in (scheme_of s.version).input s.regs i))
+      → held_after digest operand (held_of digest s) (effect_with (offered (offering (tree_of_state digest s)) (byte_shown (tree_of_state digest s) chunk)) s.regs s.pc (number_shown operand) i) ≡ held_of digest (after_effect s (effect_at s i))
   held-instr operand chunk s i = go (scheme_of s.version).input
     where
       read : ℕ → ℕ → ℕ
@@ -189,15 +189,15 @@ module _ (laws : StepLaws) (digest : List ℕ → List ℕ) where
           (laws.any_offer input.InMemory (byte_shown None chunk) s.regs s.pc read i) (laws.any_offer input.InMemory (byte_shown None chunk) s.regs s.pc (number_shown operand) i)
 
   held-word : (fetch operand : Option Opening) (chunk : Option InOpening) (s : State) (o : Option Instr) → IsShownAt digest s.memory operand (address_needed (needed_by (scheme_of s.version).input s.regs o))
-      → ShowsInput digest s.input chunk (byte_needed (tree_of digest s) (needed_by (scheme_of s.version).input s.regs o))
-      → held_after digest operand (held_of digest s) (effect_of_word (seen_held fetch operand (tree_of digest s) chunk (held_of digest s)) o) ≡ held_of digest (after_effect s (effect_of_word (seen_of s) o))
+      → ShowsInput digest s.input chunk (byte_needed (tree_of_state digest s) (needed_by (scheme_of s.version).input s.regs o))
+      → held_after digest operand (held_of digest s) (effect_of_word (seen_held fetch operand (tree_of_state digest s) chunk (held_of digest s)) o) ≡ held_of digest (after_effect s (effect_of_word (seen_of s) o))
   held-word fetch operand chunk s None shown shows = held-kept operand s (Trap 2) tt
   held-word fetch operand chunk s (Some i) shown shows = held-instr operand chunk s i shown shows
 
   -- what is held after a step is the step on what is held
   pub held-step : (fetch operand : Option Opening) (chunk : Option InOpening) (s : State) → IsShownAt digest s.memory fetch (fetch_of_state s)
-      → IsShownAt digest s.memory operand (address_needed (next_need (seen_of s))) → ShowsInput digest s.input chunk (byte_needed (tree_of digest s) (next_need (seen_of s)))
-      → step_held digest fetch operand (tree_of digest s) chunk (held_of digest s) ≡ held_of digest (step s)
+      → IsShownAt digest s.memory operand (address_needed (next_need (seen_of s))) → ShowsInput digest s.input chunk (byte_needed (tree_of_state digest s) (next_need (seen_of s)))
+      → step_held digest fetch operand (tree_of_state digest s) chunk (held_of digest s) ≡ held_of digest (step s)
   unfolding step next_effect
   held-step fetch operand chunk s = go (is_running s.status) (eqb (s.pc % 4) 0) fetch refl
     where
@@ -205,11 +205,11 @@ module _ (laws : StepLaws) (digest : List ℕ → List ℕ) where
       need_at address = needed_by (scheme_of s.version).input s.regs (read_at (λ addr. number_at s.memory addr 4) address)
 
       seen : Option Opening → Seen
-      seen f = seen_held f operand (tree_of digest s) chunk (held_of digest s)
+      seen f = seen_held f operand (tree_of_state digest s) chunk (held_of digest s)
 
       go : (r b : Bool) (f : Option Opening) → eqb (s.pc % 4) 0 ≡ b → IsShownAt digest s.memory f (cond (r && b) (Some s.pc) None)
           → IsShownAt digest s.memory operand (address_needed (need_at (cond (r && b) (Some s.pc) None)))
-          → ShowsInput digest s.input chunk (byte_needed (tree_of digest s) (need_at (cond (r && b) (Some s.pc) None)))
+          → ShowsInput digest s.input chunk (byte_needed (tree_of_state digest s) (need_at (cond (r && b) (Some s.pc) None)))
           → held_by digest operand (held_of digest s) (cond r (Some (cond b (effect_of_word (seen f) (reading_of (number_shown f s.pc 4))) (Trap 0))) None)
           ≡ held_of digest (after_next s (cond r (Some (cond b (effect_of_word (seen_of s) (reading_of (number_at s.memory s.pc 4))) (Trap 0))) None))
       go true true (Some f) test fetched shown shows =

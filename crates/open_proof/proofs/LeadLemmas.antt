@@ -12,7 +12,7 @@ use Rattle.digest_core.specs.Text.{registers_text, storage_text}
 use Rattle.merkle_nodes.specs.Node.{node}
 use Rattle.mem_tree.specs.Memory.{memory_leaf}
 use Rattle.out_chain.specs.Root.{parts_text}
-use Rattle.rv_step.specs.Alike.{named_at, with_registers, Shows, is_among}
+use Rattle.rv_step.specs.Alike.{named_at, with_registers, Shows, has_register}
 use Rattle.rv_step.specs.Effect.{x}
 use Rattle.rv_step.specs.Named.{named_by, AreRegisters}
 use Rattle.rv_step.specs.State.{State}
@@ -29,7 +29,7 @@ use Rattle.open_proof.specs.Called.{address_needed}
 use Rattle.open_proof.specs.OpenedChunk.{IsShownAt, fetch_of_state}
 use Rattle.open_proof.specs.Facts.{fetched_of, named_called, file_of, values_of, file_shown, file_of_facts, byte_needed}
 use Rattle.open_proof.specs.Next.{step_held, storage_held, root_changed, held_shown, held_next, root_of_next, root_next}
-use Rattle.open_proof.specs.Shown.{tree_by, tree_of, AreShown, ShowsRegisters, ShowsInput, ShowsState}
+use Rattle.open_proof.specs.Shown.{tree_by, tree_of_state, AreShown, ShowsRegisters, ShowsInput, ShowsState}
 use Rattle.open_proof.specs.SeenHeld.{number_shown, offering}
 use Rattle.open_proof.specs.LawsBelow.{StepLaws, RegisterLaws, TreeLaws}
 use Rattle.open_proof.specs.declared.facts.Facts.{Facts}
@@ -44,7 +44,7 @@ offers : (digest : List ℕ → List ℕ) (held : InputScheme) (xs : List ℕ) �
 offers digest input.Tree xs = refl
 offers digest input.InMemory xs = refl
 
-pub offers-as-held : (digest : List ℕ → List ℕ) (s : State) → offering (tree_of digest s) ≡ (scheme_of s.version).input
+pub offers-as-held : (digest : List ℕ → List ℕ) (s : State) → offering (tree_of_state digest s) ≡ (scheme_of s.version).input
 offers-as-held digest s = offers digest (scheme_of s.version).input s.input
 
 -- what an instruction needs depends on the registers that it names alone
@@ -53,7 +53,7 @@ need-alike laws held xs ys None zeros same = refl
 need-alike laws held xs ys (Some i) zeros same = laws.needed held xs ys i zeros same
 
 -- what is stored, where the input is held as the state has it
-pub storage-same : (digest : List ℕ → List ℕ) (s t : State) → t.input ≡ s.input → storage_held digest (tree_of digest s) (memory_digest digest t) ≡ storage_digest digest s.version t
+pub storage-same : (digest : List ℕ → List ℕ) (s t : State) → t.input ≡ s.input → storage_held digest (tree_of_state digest s) (memory_digest digest t) ≡ storage_digest digest s.version t
 storage-same digest s t same = go (scheme_of s.version).input
   where
     go : (held : InputScheme) → storage_held digest (tree_by digest held s.input) (memory_digest digest t) ≡ storage_by digest held (memory_digest digest t) (length t.input) (input_root digest t.input)
@@ -75,7 +75,7 @@ module _ (steps : StepLaws) (laws : RegisterLaws) (trees : TreeLaws) (digest : L
     abbrev pub file : List ℕ
     file = file_of (named_at s) (values_of os)
 
-    agree : (r : ℕ) → is_among (named_at s) r ≡ true → x file r ≡ x s.regs r
+    agree : (r : ℕ) → has_register (named_at s) r ≡ true → x file r ≡ x s.regs r
     agree r in_it = ap (λ vs. x (file_of (named_at s) vs) r) (values-are digest s.regs (named_at s) os shown) ∙ file-shows (x s.regs) valid.regs.zero_first (named_at s) names-low r in_it
 
     zeros : x file 0 ≡ x s.regs 0
@@ -98,11 +98,11 @@ module _ (steps : StepLaws) (laws : RegisterLaws) (trees : TreeLaws) (digest : L
       let held : held_shown facts ≡ held_of digest s = λ i. record { mem = shows.mem i; regs = file i; ctl = shows.ctl i } in
       let next : held_next digest facts ≡ held_of digest (step s) =
       ap (λ (t : Option HeldInput). step_held digest facts.fetch facts.operand t facts.input (held_shown facts)) shows.tree
-      ∙ (ap (step_held digest facts.fetch facts.operand (tree_of digest s) facts.input) held
+      ∙ (ap (step_held digest facts.fetch facts.operand (tree_of_state digest s) facts.input) held
       ∙ held-step steps digest facts.fetch facts.operand facts.input s shows.fetch shows.operand shows.input) in
       ap (λ p. root_of_next digest facts.input_tree names facts.regs (file_of_facts facts) p) next
       ∙ (ap (λ (t : Option HeldInput). root_of_next digest t names facts.regs (file_of_facts facts) (held_of digest (step s))) shows.tree
-      ∙ (ap (λ (r : HeldRegisters). root_of_next digest (tree_of digest s) names r (file_of_facts facts) (held_of digest (step s))) whole
+      ∙ (ap (λ (r : HeldRegisters). root_of_next digest (tree_of_state digest s) names r (file_of_facts facts) (held_of digest (step s))) whole
       ∙ (ap (λ m. digest (parts_text digest m (digest (registers_text (step s).regs)) (ctl_of digest (step s)))) (storage-same digest s (step s) (laws.input s))
       ∙ ap (λ h. digest (parts_text digest (storage_digest digest s.version (step s)) (registers_by digest h (step s).regs) (ctl_of digest (step s)))) (sym version))))
 
@@ -121,10 +121,10 @@ module _ (steps : StepLaws) (laws : RegisterLaws) (trees : TreeLaws) (digest : L
       let needed = need-shown os shown in
       let step' = held-step steps digest facts.fetch facts.operand facts.input s' shows.fetch
       (subst (λ n. IsShownAt digest s.memory facts.operand (address_needed n)) (sym needed) shows.operand)
-      (subst (λ n. ShowsInput digest s.input facts.input (byte_needed (tree_of digest s) n)) (sym needed) shows.input) in
+      (subst (λ n. ShowsInput digest s.input facts.input (byte_needed (tree_of_state digest s) n)) (sym needed) shows.input) in
       let next : held_next digest facts ≡ held_of digest (step s') =
       ap (λ (t : Option HeldInput). step_held digest facts.fetch facts.operand t facts.input (held_shown facts)) shows.tree
-      ∙ (ap (step_held digest facts.fetch facts.operand (tree_of digest s) facts.input) held ∙ step') in
+      ∙ (ap (step_held digest facts.fetch facts.operand (tree_of_state digest s) facts.input) held ∙ step') in
       let tree : root_changed digest root.0 rs os f (step s').regs ≡ registers_root digest (step s).regs =
       ap (λ r. root_changed digest r rs os f (step s').regs) is_root
       ∙ tree-follows trees digest s.regs (step s).regs f (step s').regs t.regs u.one rs os names-low shown (agree os shown) u.elsewhere in
@@ -132,11 +132,11 @@ module _ (steps : StepLaws) (laws : RegisterLaws) (trees : TreeLaws) (digest : L
       λ i. ctl_of digest (record { regs = (step s).regs; pc = t.pc i; memory = t.memory i; status = t.status i; output = t.output i; version = t.version i; input = t.input i }) in
       ap (λ p. root_of_next digest facts.input_tree (named_called facts) facts.regs (file_of_facts facts) p) next
       ∙ (ap (λ (t : Option HeldInput). root_of_next digest t (named_called facts) facts.regs (file_of_facts facts) (held_of digest (step s'))) shows.tree
-      ∙ (ap (λ l. root_of_next digest (tree_of digest s) l facts.regs (file_of_facts facts) (held_of digest (step s'))) names
-      ∙ (ap (λ (r : HeldRegisters). root_of_next digest (tree_of digest s) rs r (file_of_facts facts) (held_of digest (step s'))) opened
-      ∙ (ap (λ l. root_of_next digest (tree_of digest s) rs (Opened root os) l (held_of digest (step s'))) file'
-      ∙ (ap (λ r. digest (parts_text digest (storage_held digest (tree_of digest s) (memory_digest digest (step s'))) r (ctl_of digest (step s')))) tree
-      ∙ (ap (λ m. digest (parts_text digest (storage_held digest (tree_of digest s) (node digest (memory_leaf m) 27 0)) (registers_root digest (step s).regs) (ctl_of digest (step s')))) t.memory
+      ∙ (ap (λ l. root_of_next digest (tree_of_state digest s) l facts.regs (file_of_facts facts) (held_of digest (step s'))) names
+      ∙ (ap (λ (r : HeldRegisters). root_of_next digest (tree_of_state digest s) rs r (file_of_facts facts) (held_of digest (step s'))) opened
+      ∙ (ap (λ l. root_of_next digest (tree_of_state digest s) rs (Opened root os) l (held_of digest (step s'))) file'
+      ∙ (ap (λ r. digest (parts_text digest (storage_held digest (tree_of_state digest s) (memory_digest digest (step s'))) r (ctl_of digest (step s')))) tree
+      ∙ (ap (λ m. digest (parts_text digest (storage_held digest (tree_of_state digest s) (node digest (memory_leaf m) 27 0)) (registers_root digest (step s).regs) (ctl_of digest (step s')))) t.memory
       ∙ (ap (λ m. digest (parts_text digest m (registers_root digest (step s).regs) (ctl_of digest (step s')))) (storage-same digest s (step s) (laws.input s))
       ∙ (ap (λ c. digest (parts_text digest (storage_digest digest s.version (step s)) (registers_root digest (step s).regs) c)) ctl
       ∙ ap (λ h. digest (parts_text digest (storage_digest digest s.version (step s)) (registers_by digest h (step s).regs) (ctl_of digest (step s)))) (sym version)))))))))

@@ -14,7 +14,7 @@ use Rattle.mem_tree.specs.Memory.{memory_leaf}
 use Rattle.mem_tree.specs.RegisterTree.{register_leaf}
 use Rattle.mem_tree.specs.InputTree.{input_chunk, input_leaf}
 use Rattle.open_proof.specs.OpenedChunk.{siblings_of, opening_of}
-use Rattle.open_proof.specs.PlainProof.{register_siblings, register_opening, input_siblings, input_opening_of}
+use Rattle.open_proof.specs.PlainProof.{register_siblings, opened_register, input_siblings, input_opening_of}
 
 same-digest : (x y : Digest32) → x.0 ≡ y.0 → x ≡ y
 same-digest x y same = λ i. record { 0 = same i }
@@ -40,7 +40,7 @@ opening-is digest m addr o same levels is =
     λ i. record { chunk = same i; path = record { 0 = path i } }
 
 pub register-is : (digest : List ℕ → List ℕ) (xs : List ℕ) (r : ℕ) (o : RegOpening) → o.value ≡ slice_index xs r → length o.path.0 ≡ 5
-    → IsPath digest (register_leaf xs) 5 r o.path.0 → o ≡ register_opening digest xs r
+    → IsPath digest (register_leaf xs) 5 r o.path.0 → o ≡ opened_register digest xs r
 unfolding register_siblings
 register-is digest xs r o same levels is =
     let path = path-is digest (register_leaf xs) 5 r o.path.0 levels is in

@@ -7,7 +7,7 @@ use Rattle.rd_base.specs.declared.opened.RegOpening.{RegOpening}
 use Rattle.digest_core.specs.Text.{register_text}
 use Rattle.merkle_nodes.specs.Node.{node, digest_at}
 use Rattle.merkle_nodes.specs.Opening.{opened}
-use Rattle.rv_step.specs.Alike.{is_among}
+use Rattle.rv_step.specs.Alike.{has_register}
 use Rattle.rv_step.specs.Effect.{x}
 use Rattle.rv_step.specs.Named.{AreRegisters}
 use Rattle.mem_tree.specs.RegisterTree.{register_leaf, registers_root}
@@ -42,7 +42,7 @@ file-later file q v r other = ⊎_elim
     (λ some. rw (ne_eqb q 0 some) (get_or-set_other file q r v 0 other))
     (cases_eq q 0)
 
-pub file-shows : (f : ℕ → ℕ) → f 0 ≡ 0 → (rs : List ℕ) → AreRegisters rs → (r : ℕ) → is_among rs r ≡ true → x (file_of rs (map f rs)) r ≡ f r
+pub file-shows : (f : ℕ → ℕ) → f 0 ≡ 0 → (rs : List ℕ) → AreRegisters rs → (r : ℕ) → has_register rs r ≡ true → x (file_of rs (map f rs)) r ≡ f r
 file-shows f zeros [] low r in_it = absurd (true≢false (sym in_it))
 file-shows f zeros (q ∷ rs) low r in_it =
     let file = file_of rs (map f rs) in
@@ -58,15 +58,15 @@ file-shows f zeros (q ∷ rs) low r in_it =
     subst (λ (k : ℕ). x (with_register file q (f q)) k ≡ f k) (sym here) holds)
     (cases_eq q 0))
     (λ other.
-    let rest : is_among rs r ≡ true = ⊎_elim (λ same. absurd (other (sym (eqb-true q r same)))) (λ later. later) (or_cases (eqb q r) (is_among rs r) in_it) in
+    let rest : has_register rs r ≡ true = ⊎_elim (λ same. absurd (other (sym (eqb-true q r same)))) (λ later. later) (or_cases (eqb q r) (has_register rs r) in_it) in
     file-later file q (f q) r other ∙ file-shows f zeros rs low.1 r rest)
     (cases_eq r q)
 
-pub map-same : (f g : ℕ → ℕ) (rs : List ℕ) → ((r : ℕ) → is_among rs r ≡ true → f r ≡ g r) → map f rs ≡ map g rs
+pub map-same : (f g : ℕ → ℕ) (rs : List ℕ) → ((r : ℕ) → has_register rs r ≡ true → f r ≡ g r) → map f rs ≡ map g rs
 map-same f g [] same = refl
 map-same f g (r ∷ rs) same =
     let first = same r (rw (eq-eqb r r refl) refl) in
-    let rest = map-same f g rs (λ q in_it. same q (or_right (eqb r q) (is_among rs q) in_it)) in
+    let rest = map-same f g rs (λ q in_it. same q (or_right (eqb r q) (has_register rs q) in_it)) in
     cc
 
 pub values-are : (digest : List ℕ → List ℕ) (xs rs : List ℕ) (os : List RegOpening) → AreShown digest xs rs os → values_of os ≡ map (x xs) rs
@@ -86,8 +86,8 @@ leaf-same xs ys r same = leaf-is xs r ∙ (ap register_text (sym same) ∙ sym (
 module _ (laws : TreeLaws) (digest : List ℕ → List ℕ) (xs ys f t : List ℕ)
     (alike : (r : ℕ) → x f r ≡ x xs r → x t r ≡ x ys r)
     (one : (r q : ℕ) → x ys r ≢ x xs r → q ≢ r → x ys q ≡ x xs q) where
-  pub tree-follows : (rs : List ℕ) (os : List RegOpening) → AreRegisters rs → AreShown digest xs rs os → ((r : ℕ) → is_among rs r ≡ true → x f r ≡ x xs r)
-      → ((r : ℕ) → is_among rs r ≡ false → x ys r ≡ x xs r) → root_changed digest (registers_root digest xs) rs os f t ≡ registers_root digest ys
+  pub tree-follows : (rs : List ℕ) (os : List RegOpening) → AreRegisters rs → AreShown digest xs rs os → ((r : ℕ) → has_register rs r ≡ true → x f r ≡ x xs r)
+      → ((r : ℕ) → has_register rs r ≡ false → x ys r ≡ x xs r) → root_changed digest (registers_root digest xs) rs os f t ≡ registers_root digest ys
   tree-follows [] [] low shown agree elsewhere = laws.same digest (register_leaf xs) (register_leaf ys) 5 0 (λ j under. leaf-same xs ys j (elsewhere j refl))
   tree-follows [] (o ∷ os) low shown agree elsewhere = absurd shown
   tree-follows (r ∷ rs) [] low shown agree elsewhere = absurd shown
@@ -95,8 +95,8 @@ module _ (laws : TreeLaws) (digest : List ℕ → List ℕ) (xs ys f t : List �
       let here : x f r ≡ x xs r = agree r (rw (eq-eqb r r refl) refl) in
       let after : x t r ≡ x ys r = alike r here in
       go here after
-      (λ stays. tree-follows rs os low.1 shown.2 (λ q in_it. agree q (or_right (eqb r q) (is_among rs q) in_it))
-      (λ q out. ⊎_elim (λ same. subst (λ k. x ys k ≡ x xs k) (sym same) stays) (λ other. elsewhere q (or_from (eqb r q) (is_among rs q) (ne_eqb r q (λ e. other (sym e))) out)) (cases_eq q r)))
+      (λ stays. tree-follows rs os low.1 shown.2 (λ q in_it. agree q (or_right (eqb r q) (has_register rs q) in_it))
+      (λ q out. ⊎_elim (λ same. subst (λ k. x ys k ≡ x xs k) (sym same) stays) (λ other. elsewhere q (or_from (eqb r q) (has_register rs q) (ne_eqb r q (λ e. other (sym e))) out)) (cases_eq q r)))
       (eqb (x f r) (x t r)) refl
     where
       go : x f r ≡ x xs r → x t r ≡ x ys r → (x ys r ≡ x xs r → root_changed digest (registers_root digest xs) rs os f t ≡ registers_root digest ys) → (b : Bool) → eqb (x f r) (x t r) ≡ b

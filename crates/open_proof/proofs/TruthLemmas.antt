@@ -48,9 +48,9 @@ use Rattle.open_proof.specs.InRange.{is_in_range}
 use Rattle.open_proof.specs.SeenHeld.{offering}
 use Rattle.open_proof.specs.Next.{storage_texts, storage_held, registers_held, text_before, root_before}
 use Rattle.open_proof.specs.Openings.{AreCounted, fetch_ways, named_ways, operand_ways, read_ways, register_ways, input_ways}
-use Rattle.open_proof.specs.PlainProof.{register_siblings, register_opening, input_siblings, input_opening_at, registers_opened, plain_facts, plain_proof}
+use Rattle.open_proof.specs.PlainProof.{register_siblings, opened_register, input_siblings, input_opening_at, registers_opened, plain_facts, plain_proof}
 use Rattle.open_proof.specs.RangeLaws.{FactsRange, TreeRange, RegistersRange, facts-range}
-use Rattle.open_proof.specs.Shown.{tree_by, tree_of, operand_of_state, input_of_state, AreShown, ShowsRegisters, ShowsInput, ShowsState}
+use Rattle.open_proof.specs.Shown.{tree_by, tree_of_state, operand_of_state, input_of_state, AreShown, ShowsRegisters, ShowsInput, ShowsState}
 use Rattle.open_proof.specs.StateCollision.{IsStateCollision}
 use Rattle.open_proof.specs.Strings.{registers_texts, part_texts, opened_by_facts}
 use Rattle.open_proof.specs.Ways.{WaysOpen, ways_texts}
@@ -114,7 +114,7 @@ code-of (Exited code) word = word
 code-of (Trapped code) word = word
 
 -- the tree of a state, as its version has it
-tree-is : (digest : List ℕ → List ℕ) (s : State) (t : HeldInput) → tree_of digest s ≡ Some t → (t.len ≡ length s.input) × (t.root.0 ≡ input_root digest s.input)
+tree-is : (digest : List ℕ → List ℕ) (s : State) (t : HeldInput) → tree_of_state digest s ≡ Some t → (t.len ≡ length s.input) × (t.root.0 ≡ input_root digest s.input)
 tree-is digest s t = go (scheme_of s.version).input
   where
     go : (held : InputScheme) → tree_by digest held s.input ≡ Some t → (t.len ≡ length s.input) × (t.root.0 ≡ input_root digest s.input)
@@ -187,7 +187,7 @@ module _ (digest : List ℕ → List ℕ) (s : State) where
 
 module _ (steps : StepLaws) (laws : RegisterLaws) (trees : TreeLaws) (digest : List ℕ → List ℕ) (s : State) (valid : IsValid s) where
   -- what the instruction needs is what the state's needs
-  needed-same : (f : Facts) (regs : HeldRegisters) → f.regs ≡ regs → f.input_tree ≡ tree_of digest s → fetched_of f ≡ fetched (seen_of s) → ShowsRegisters digest s regs → needed_of f ≡ next_need (seen_of s)
+  needed-same : (f : Facts) (regs : HeldRegisters) → f.regs ≡ regs → f.input_tree ≡ tree_of_state digest s → fetched_of f ≡ fetched (seen_of s) → ShowsRegisters digest s regs → needed_of f ≡ next_need (seen_of s)
   needed-same f regs is tree word shows =
       ap (λ (t : Option HeldInput). needed_by (offering t) (file_of_facts f) (fetched_of f)) tree
       ∙ (ap (λ h. needed_by h (file_of_facts f) (fetched_of f)) (offers-as-held digest s)
@@ -201,7 +201,7 @@ module _ (steps : StepLaws) (laws : RegisterLaws) (trees : TreeLaws) (digest : L
       by-file (Whole xs) shows = ap (λ l. needed_by held l (fetched (seen_of s))) shows.1
       by-file (Opened root os) shows = need-shown steps laws trees digest s valid os shows.2
 
-  tree-known : (f : Facts) → f.input_tree ≡ tree_of digest s → (t : HeldInput) → f.input_tree ≡ Some t → (t.len ≡ length s.input) × (t.root.0 ≡ input_root digest s.input)
+  tree-known : (f : Facts) → f.input_tree ≡ tree_of_state digest s → (t : HeldInput) → f.input_tree ≡ Some t → (t.len ≡ length s.input) × (t.root.0 ≡ input_root digest s.input)
   tree-known f tree t is = tree-is digest s t (sym tree ∙ is)
 
   unoffered : (f : Facts) → f.input_tree ≡ None → is_some (input_called f) ≡ false
@@ -227,7 +227,7 @@ module _ (steps : StepLaws) (laws : RegisterLaws) (trees : TreeLaws) (digest : L
   root-shown : (f : Facts) → ShowsState digest f s → root_before digest f ≡ root_in digest s.version s
   root-shown f shows =
       ap (λ (t : Option HeldInput). digest (parts_text digest (storage_held digest t f.mem.0) (registers_held digest f.regs) f.ctl)) shows.tree
-      ∙ (ap (λ m. digest (parts_text digest (storage_held digest (tree_of digest s) m) (registers_held digest f.regs) f.ctl)) shows.mem
+      ∙ (ap (λ m. digest (parts_text digest (storage_held digest (tree_of_state digest s) m) (registers_held digest f.regs) f.ctl)) shows.mem
       ∙ (ap (λ m. digest (parts_text digest m (registers_held digest f.regs) f.ctl)) (storage-same digest s s refl)
       ∙ (ap (λ r. digest (parts_text digest (storage_digest digest s.version s) r f.ctl)) (registers-shown f.regs shows.regs)
       ∙ ap (λ (c : Ctl). digest (parts_text digest (storage_digest digest s.version s) (registers_digest digest s.version s.regs) c)) shows.ctl)))
@@ -239,7 +239,7 @@ module _ (steps : StepLaws) (laws : RegisterLaws) (trees : TreeLaws) (digest : L
       let names : named_called f ≡ named_at s = ap named_by word in
       let needed = needed-same f f.regs refl shows.tree word shows.regs in
       let operand_is : operand_called f ≡ operand_of_state s = ap address_needed needed in
-      let input_is : input_called f ≡ input_of_state digest s = ap (λ (t : Option HeldInput). byte_needed t (needed_of f)) shows.tree ∙ ap (byte_needed (tree_of digest s)) needed in (
+      let input_is : input_called f ≡ input_of_state digest s = ap (λ (t : Option HeldInput). byte_needed t (needed_of f)) shows.tree ∙ ap (byte_needed (tree_of_state digest s)) needed in (
         shaped.version,
         (
           shaped.fetch ∙ ap is_some (sym address),
@@ -282,11 +282,11 @@ module _ (steps : StepLaws) (laws : RegisterLaws) (trees : TreeLaws) (digest : L
   register-along r l below =
       ap (λ (d : Digest32). d.0) (get_or-map-range_with_len (λ j. record { 0 = register_node digest s.regs j (beside (r / 2 ^ j)) }) 0 5 l l (record { 0 = [] }) below (omega arith))
 
-  plain-named : (rs : List ℕ) → AreShown digest s.regs rs (map (register_opening digest s.regs) rs)
+  plain-named : (rs : List ℕ) → AreShown digest s.regs rs (map (opened_register digest s.regs) rs)
   plain-named [] = tt
   plain-named (r ∷ rs) = (refl, λ l below. register-along r l below, plain-named rs)
 
-  plain-count : (rs : List ℕ) → length (map (register_opening digest s.regs) rs) ≡ length rs
+  plain-count : (rs : List ℕ) → length (map (opened_register digest s.regs) rs) ≡ length rs
   plain-count [] = refl
   plain-count (r ∷ rs) = let rest = plain-count rs in omega arith
 
@@ -381,7 +381,7 @@ module _ (steps : StepLaws) (laws : RegisterLaws) (trees : TreeLaws) (digest : L
 
   -- and what is stored
   abbrev HasStorage : Option HeldInput → List ℕ → Type 0
-  HasStorage tree mem = (mem ≡ memory_digest digest s) × (tree ≡ tree_of digest s)
+  HasStorage tree mem = (mem ≡ memory_digest digest s) × (tree ≡ tree_of_state digest s)
 
   abbrev the_tree : HeldInput
   the_tree = record { len = length s.input; root = record { 0 = input_root digest s.input } }
@@ -417,7 +417,7 @@ module _ (steps : StepLaws) (laws : RegisterLaws) (trees : TreeLaws) (digest : L
   -- the parts are those of the state
   pub record HasParts (f : Facts) : Type 0 where
     pub mem : f.mem.0 ≡ memory_digest digest s
-    pub tree : f.input_tree ≡ tree_of digest s
+    pub tree : f.input_tree ≡ tree_of_state digest s
     pub ctl : f.ctl ≡ ctl_of digest s
     pub regs : HasRegisters f.regs
 
@@ -476,7 +476,7 @@ module _ (steps : StepLaws) (laws : RegisterLaws) (trees : TreeLaws) (digest : L
       (λ regs.
       let needed = needed-same steps laws trees digest s valid f f.regs refl parts.tree word regs in
       let operand_is : operand_called f ≡ operand_of_state s = ap address_needed needed in
-      let input_is : input_called f ≡ input_of_state digest s = ap (λ (t : Option HeldInput). byte_needed t (needed_of f)) parts.tree ∙ ap (byte_needed (tree_of digest s)) needed in
+      let input_is : input_called f ≡ input_of_state digest s = ap (λ (t : Option HeldInput). byte_needed t (needed_of f)) parts.tree ∙ ap (byte_needed (tree_of_state digest s)) needed in
       ⊎_elim
       (λ operand. ⊎_elim
       (λ input. inl (record { mem = parts.mem; tree = parts.tree; ctl = parts.ctl; fetch = fetch; regs = regs; operand = subst (IsShownAt digest s.memory f.operand) operand_is operand; input = subst (ShowsInput digest s.input f.input) input_is input }))

@@ -16,7 +16,7 @@ use Rattle.mem_tree.specs.RegisterTree.{register_node, registers_root}
 use Rattle.mem_tree.specs.InputTree.{input_chunk, input_node}
 use Rattle.open_proof.specs.OpenedChunk.{opening_at, fetch_of_state}
 use Rattle.open_proof.specs.Facts.{proof_of}
-use Rattle.open_proof.specs.Shown.{tree_of, operand_of_state, input_of_state}
+use Rattle.open_proof.specs.Shown.{tree_of_state, operand_of_state, input_of_state}
 use Rattle.open_proof.specs.declared.facts.Facts.{Facts}
 use Rattle.open_proof.specs.declared.facts.HeldRegisters.{HeldRegisters}
 use Rattle.open_proof.specs.declared.facts.HeldRegisters.TheVariants.{Whole, Opened}
@@ -26,8 +26,8 @@ unfoldable pub register_siblings : (List ℕ → List ℕ) → List ℕ → ℕ 
 register_siblings digest xs r = map (λ l. record { 0 = register_node digest xs l (beside (r / 2 ^ l)) }) (range_with_len 0 5)
 
 -- the opened register
-abbrev pub register_opening : (List ℕ → List ℕ) → List ℕ → ℕ → RegOpening
-register_opening digest xs r = record { value = slice_index xs r; path = record { 0 = register_siblings digest xs r } }
+abbrev pub opened_register : (List ℕ → List ℕ) → List ℕ → ℕ → RegOpening
+opened_register digest xs r = record { value = slice_index xs r; path = record { 0 = register_siblings digest xs r } }
 
 -- the path of a chunk of the input: the node beside it at each of the levels 0 to 14
 unfoldable pub input_siblings : (List ℕ → List ℕ) → List ℕ → ℕ → List Digest32
@@ -44,14 +44,14 @@ input_opening_at digest input None = None
 -- the registers as a version holds them, with those opened that are named
 abbrev pub registers_opened : (List ℕ → List ℕ) → RegisterScheme → List ℕ → List ℕ → HeldRegisters
 registers_opened digest registers.Whole xs names = Whole xs
-registers_opened digest registers.Tree xs names = Opened (record { 0 = registers_root digest xs }) (map (register_opening digest xs) names)
+registers_opened digest registers.Tree xs names = Opened (record { 0 = registers_root digest xs }) (map (opened_register digest xs) names)
 
 -- a state's parts as its version has them, and with their paths exactly the openings that they call for
 abbrev pub plain_facts : (List ℕ → List ℕ) → State → Facts
 plain_facts digest s = record {
   version = s.version;
   mem = record { 0 = memory_digest digest s };
-  input_tree = tree_of digest s;
+  input_tree = tree_of_state digest s;
   regs = registers_opened digest (scheme_of s.version).registers s.regs (named_at s);
   ctl = ctl_of digest s;
   fetch = opening_at digest s.memory (fetch_of_state s);

@@ -20,12 +20,12 @@ offering (Some t) = input.Tree
 offering None = input.InMemory
 
 -- the input as far as it is shown: the bytes of the opened chunk, and ffffffff behind the input's end
-abbrev pub byte_in : Option InOpening → ℕ → ℕ
-byte_in (Some o) k = slice_index o.chunk (k % 32)
-byte_in None k = 0
+abbrev pub opened_byte : Option InOpening → ℕ → ℕ
+opened_byte (Some o) k = slice_index o.chunk (k % 32)
+opened_byte None k = 0
 
 abbrev pub byte_shown : Option HeldInput → Option InOpening → ℕ → ℕ
-byte_shown (Some t) input k = if nat_lt k t.len then byte_in input k else 2 ^ 32 - 1
+byte_shown (Some t) input k = if nat_lt k t.len then opened_byte input k else 2 ^ 32 - 1
 byte_shown None input k = 2 ^ 32 - 1
 
 -- what a step sees: the word at pc in the fetched chunk, numbers of memory in the chunk of data, and the input as far as it is shown

@@ -28,15 +28,15 @@ abbrev pub tree_by : (List ℕ → List ℕ) → InputScheme → List ℕ → Op
 tree_by digest input.Tree xs = Some (record { len = length xs; root = record { 0 = input_root digest xs } })
 tree_by digest input.InMemory xs = None
 
-abbrev pub tree_of : (List ℕ → List ℕ) → State → Option HeldInput
-tree_of digest s = tree_by digest (scheme_of s.version).input s.input
+abbrev pub tree_of_state : (List ℕ → List ℕ) → State → Option HeldInput
+tree_of_state digest s = tree_by digest (scheme_of s.version).input s.input
 
 -- the address of the data for which a state calls, and the number of the input's byte
 abbrev pub operand_of_state : State → Option ℕ
 operand_of_state s = address_needed (next_need (seen_of s))
 
 abbrev pub input_of_state : (List ℕ → List ℕ) → State → Option ℕ
-input_of_state digest s = byte_needed (tree_of digest s) (next_need (seen_of s))
+input_of_state digest s = byte_needed (tree_of_state digest s) (next_need (seen_of s))
 
 -- opened registers are those of a register file, with the siblings of its tree
 abbrev pub AreShown : (List ℕ → List ℕ) → List ℕ → List ℕ → List RegOpening → Type 0
@@ -59,7 +59,7 @@ ShowsInput digest xs chunk None = Unit {0}
 -- what a proof holds is a state's, and what it opens is what the state calls for
 pub record ShowsState (digest : List ℕ → List ℕ) (facts : Facts) (s : State) : Type 0 where
   pub mem : facts.mem.0 ≡ memory_digest digest s
-  pub tree : facts.input_tree ≡ tree_of digest s
+  pub tree : facts.input_tree ≡ tree_of_state digest s
   pub ctl : facts.ctl ≡ ctl_of digest s
   pub fetch : IsShownAt digest s.memory facts.fetch (fetch_of_state s)
   pub regs : ShowsRegisters digest s facts.regs

@@ -21,14 +21,14 @@ there (None ∷ ws) = there ws
 abbrev pub first_three : List Way → List (Option Way)
 first_three ws = slice_get ws 0 ∷ slice_get ws 1 ∷ slice_get ws 2 ∷ []
 
--- the rest of a way above its string, by the digest of the string; none at the root
-abbrev pub above_with : ℕ → List ℕ → List ℕ → List Digest32 → Option Way
-above_with index root digest [] = None
-above_with index root digest (s ∷ ss) =
+-- the rest of a way way_above its string, by the digest of the string; none at the root
+abbrev pub way_above_with : ℕ → List ℕ → List ℕ → List Digest32 → Option Way
+way_above_with index root digest [] = None
+way_above_with index root digest (s ∷ ss) =
     Some (record { text = joined (index % 2) digest s.0; index = index / 2; siblings = ss; levels = length ss; root = root })
 
-abbrev pub above : Way → List ℕ → Option Way
-above w digest = above_with w.index w.root digest w.siblings
+abbrev pub way_above : Way → List ℕ → Option Way
+way_above w digest = way_above_with w.index w.root digest w.siblings
 
 -- the first two different strings of one digest of two ways in the same slot
 abbrev pub slot_collision : (List ℕ → List ℕ) → Option Way → Option Way → Option (List ℕ × List ℕ)

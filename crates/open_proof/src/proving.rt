@@ -107,7 +107,7 @@ pub fn make_proof<D: Digester>(committed: &Committed<D>) -> Proof
 
 /// What a state has of the input as a tree.
 fn tree_of<D: Digester>(committed: &Committed<D>) -> Option<HeldInput>
-    ensures value { result ≡ shown.tree_of D.digest_of committed.now }
+    ensures value { result ≡ shown.tree_of_state D.digest_of committed.now }
     ensures short { IfSome result (λ t. t.len ≤ 1048576) }
 {
     let machine = committed.machine();
@@ -158,7 +158,7 @@ fn opening_at<D: Digester>(committed: &Committed<D>, address: Option<u32>) -> Op
 fn register_opening<D: Digester>(committed: &Committed<D>, reg: u8) -> RegOpening
     requires reg { reg < 32 }
     requires version { (scheme_of committed.now.version).registers ≡ RegisterScheme.Tree }
-    ensures { result ≡ plain.register_opening D.digest_of committed.now.regs reg }
+    ensures { result ≡ plain.opened_register D.digest_of committed.now.regs reg }
 {
     let value = committed.machine().regs.get(reg);
     let path = committed.register_path(reg);
@@ -171,7 +171,7 @@ fn put_openings<D: Digester>(committed: &Committed<D>, names: &[u8], opened: &mu
     requires registers { AreRegisters names.now }
     requires version { (scheme_of committed.now.version).registers ≡ RegisterScheme.Tree }
     requires few { length opened.old + length names.now ≤ 3 }
-    ensures { opened.new ≡ opened.old ++ map (plain.register_opening D.digest_of committed.now.regs) names.now }
+    ensures { opened.new ≡ opened.old ++ map (plain.opened_register D.digest_of committed.now.regs) names.now }
 {
     match names {
         [] => {}
@@ -187,7 +187,7 @@ fn named_openings<D: Digester>(committed: &Committed<D>, names: &[u8]) -> RegOpe
     requires registers { AreRegisters names.now }
     requires version { (scheme_of committed.now.version).registers ≡ RegisterScheme.Tree }
     requires few { length names.now ≤ 3 }
-    ensures { result ≡ map (plain.register_opening D.digest_of committed.now.regs) names.now }
+    ensures { result ≡ map (plain.opened_register D.digest_of committed.now.regs) names.now }
 {
     let mut opened = RegOpenings::new();
     put_openings(committed, names, &mut opened);

@@ -42,7 +42,7 @@ fn offering(tree: &Option<HeldInput>) -> InputScheme
 
 /// A byte of the opened chunk of the input, and 0 if none is there.
 fn byte_in(input: &Option<InOpening>, k: u32) -> u32
-    ensures { result ≡ seen_held.byte_in input.now k }
+    ensures { result ≡ seen_held.opened_byte input.now k }
 {
     match input {
         Some(opening) => u32::from(opening.chunk[(k % 32) as usize]),

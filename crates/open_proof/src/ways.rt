@@ -46,7 +46,7 @@ impl<'a> Model for Way<'a> {
 impl<'a> Way<'a> {
     /// The rest of the way above its string, by the digest of the string; `None` at the root.
     pub(crate) fn above(&self, digest: &Digest32) -> Option<Way<'a>>
-        ensures { result ≡ slots.above self.now digest.now.0 }
+        ensures { result ≡ slots.way_above self.now digest.now.0 }
     {
         match self.siblings {
             [] => None,

@@ -12,10 +12,10 @@ use Rattle.bisect_game.specs.Says.{Says, AnswerAs}
 use Rattle.board_book.specs.declared.book.Opening.{Opening}
 use Rattle.board_book.specs.declared.entry.Entry.{Entry}
 use Rattle.board_book.specs.Tasks.{Task, task_of, BookOf, openings, tasks_of, numbered, entries_of, of_task, sayings_from, sayings}
-use Rattle.board_book.specs.Keeping.{AreNumbered, AreToldApart, SayInOrder}
+use Rattle.board_book.specs.Keeping.{NumbersAgree, AreToldApart, SayInOrder}
 use Rattle.dispute_board.specs.OneHistory.{IsThere}
 use Rattle.posters.specs.declared.playing.Place.{Place}
-use Rattle.posters.specs.Serving.{provers_from, places_from, silent, said_by, IsProver}
+use Rattle.posters.specs.Serving.{provers_from, places_from, silent, saying_of, IsProverAt}
 
 abbrev Saying : Type 0
 Saying = Question → ℕ → Option Answer
@@ -77,7 +77,7 @@ module _ {N M : Type 0} (says : M → Says) where
       ]
 
   -- the prover of a number
-  pub prover_at : (heads : List (Opening N M)) (n : ℕ) (x : Place) (said : Saying) → slice_get (places_from 1 heads) n ≡ Some x → said ≡ said_by says heads n → IsProver says heads x said
+  pub prover_at : (heads : List (Opening N M)) (n : ℕ) (x : Place) (said : Saying) → slice_get (places_from 1 heads) n ≡ Some x → said ≡ saying_of says heads n → IsProverAt says heads x said
   prover_at heads n x said e same =
       let p : IsPlaced 1 heads n x = placed 1 heads n x e in
       let from : 1 ≤ x.task = p.from in
@@ -89,12 +89,12 @@ module _ {N M : Type 0} (says : M → Says) where
         says_it = same ∙ get_or_from_slice_get (sayings says heads) n (says p.head.provers x.prover) silent p.said;
       }
 
-module _ {N M : Type 0} (ruling : N → Ruling) (says : M → Says) (law : AreNumbered ruling says) where
+module _ {N M : Type 0} (ruling : N → Ruling) (says : M → Says) (law : NumbersAgree ruling says) where
   -- a prover that is there
-  pub is_there : (heads : List (Opening N M)) (x : Place) (said : Saying) → IsProver says heads x said → IsThere (tasks_of ruling says heads) x.task x.prover
+  pub is_there : (heads : List (Opening N M)) (x : Place) (said : Saying) → IsProverAt says heads x said → IsThere (tasks_of ruling says heads) x.task x.prover
   is_there heads x said p = (task_of ruling says p.head, law.opening heads x.task p.head p.there, p.some, p.few)
 
-  pub task_same : (heads : List (Opening N M)) (x : Place) (said : Saying) (k : Task) → (p : IsProver says heads x said) → numbered (tasks_of ruling says heads) x.task ≡ Some k → task_of ruling says p.head ≡ k
+  pub task_same : (heads : List (Opening N M)) (x : Place) (said : Saying) (k : Task) → (p : IsProverAt says heads x said) → numbered (tasks_of ruling says heads) x.task ≡ Some k → task_of ruling says p.head ≡ k
   task_same heads x said k p e = same_Some (task_of ruling says p.head) k (sym (law.opening heads x.task p.head p.there) ∙ e)
 
 -- a list by its numbers
@@ -106,10 +106,10 @@ list_by_number {B} d zs (y ∷ ys) j e =
     let same : (zs ++ y ∷ []) ++ ys ≡ zs ++ y ∷ ys = append_assoc zs (y ∷ []) ys in
     ap₂ (λ (a : B) (l : List B). a ∷ l) first (subst (λ (l : List B). map (λ n. get_or l n d) (range_with_len (j + 1) (length ys)) ≡ ys) same rest)
 
-pub all_by_number : {A : Type 0} {N M : Type 0} (answers : A → Saying) (says : M → Says) (heads : List (Opening N M)) (xs : List A) → map answers xs ≡ sayings says heads → map answers xs ≡ map (said_by says heads) (range_with_len 0 (length xs))
+pub all_by_number : {A : Type 0} {N M : Type 0} (answers : A → Saying) (says : M → Says) (heads : List (Opening N M)) (xs : List A) → map answers xs ≡ sayings says heads → map answers xs ≡ map (saying_of says heads) (range_with_len 0 (length xs))
 all_by_number answers says heads xs e =
     let long : length xs ≡ length (sayings says heads) = sym (length-map xs answers) ∙ ap length e in
-    e ∙ (sym (list_by_number silent [] (sayings says heads) 0 refl) ∙ ap (λ (n : ℕ). map (said_by says heads) (range_with_len 0 n)) (sym long))
+    e ∙ (sym (list_by_number silent [] (sayings says heads) 0 refl) ∙ ap (λ (n : ℕ). map (saying_of says heads) (range_with_len 0 n)) (sym long))
 
 -- there are as many provers as there are places
 
@@ -178,7 +178,7 @@ single_said answers law says m xs long a = law says 1 xs a ∙ (ap (sayings_from
 
 -- the opening of the next book
 
-pub opening_of : {N M : Type 0} (ruling : N → Ruling) (says : M → Says) → AreNumbered ruling says → (bs : List (BookOf N M)) (i : ℕ) (b : BookOf N M) → numbered bs (i + 1) ≡ Some b → slice_get (openings bs) i ≡ Some b.opening
+pub opening_of : {N M : Type 0} (ruling : N → Ruling) (says : M → Says) → NumbersAgree ruling says → (bs : List (BookOf N M)) (i : ℕ) (b : BookOf N M) → numbered bs (i + 1) ≡ Some b → slice_get (openings bs) i ≡ Some b.opening
 opening_of ruling says law bs i b e =
     let place : i + 1 - 1 ≡ i = omega arith in
     ap (slice_get (openings bs)) (sym place)

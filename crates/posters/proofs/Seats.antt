@@ -8,16 +8,16 @@ use Rattle.bisect_game.specs.Says.{Says}
 use Rattle.seat_lock.specs.History.{LogEntry, History, log_of, turns_of, Begins}
 use Rattle.seat_lock.specs.Seats.{LockId, Known, after_join}
 use Rattle.board_book.specs.declared.book.Opening.{Opening}
-use Rattle.board_book.specs.Keeping.{AreNumbered}
+use Rattle.board_book.specs.Keeping.{NumbersAgree}
 use Rattle.dispute_board.specs.OneHistory.{IsOfTheCase, MayPostFor, SaidMayBePosted}
 use Rattle.bisect_game.specs.Ruling.{Ruling}
 use Rattle.board_book.specs.Tasks.{Task, task_of, numbered, tasks_of}
 use Rattle.posters.specs.declared.playing.Place.{Place}
-use Rattle.posters.specs.Serving.{kept_of, IsSeatOf, KnowsStart, IsProver}
+use Rattle.posters.specs.Serving.{kept_of, IsSeatOf, KnowsStart, IsProverAt}
 use Rattle.posters.proofs.Numbering.{task_same}
 
 -- what the prover of a place says to a question that its task's case asks may be posted for it
-pub may_post_for : {N M : Type 0} (ruling : N → Ruling) (says : M → Says) → AreNumbered ruling says → SaidMayBePosted → (heads : List (Opening N M)) (x : Place) (said : Question → ℕ → Option Answer) (q : Question) (n : ℕ) (m : Option Answer) → IsProver says heads x said →
+pub may_post_for : {N M : Type 0} (ruling : N → Ruling) (says : M → Says) → NumbersAgree ruling says → SaidMayBePosted → (heads : List (Opening N M)) (x : Place) (said : Question → ℕ → Option Answer) (q : Question) (n : ℕ) (m : Option Answer) → IsProverAt says heads x said →
     (k : Task) → numbered (tasks_of ruling says heads) x.task ≡ Some k → IsOfTheCase k.rules k.says x.prover q → m ≡ said q n → MayPostFor (tasks_of ruling says heads) x.task x.prover q.qid m
 may_post_for ruling says law may heads x said q n m p k there asked same =
     let one : task_of ruling says p.head ≡ k = task_same ruling says law heads x said k p there in

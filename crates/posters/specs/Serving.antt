@@ -30,11 +30,11 @@ abbrev pub silent : Question → ℕ → Option Answer
 silent question passes = None
 
 -- what the prover of a number says, of all provers of all tasks
-abbrev pub said_by : {N M : Type 0} → (M → Says) → List (Opening N M) → ℕ → Question → ℕ → Option Answer
-said_by says heads number = get_or (sayings says heads) number silent
+abbrev pub saying_of : {N M : Type 0} → (M → Says) → List (Opening N M) → ℕ → Question → ℕ → Option Answer
+saying_of says heads number = get_or (sayings says heads) number silent
 
 -- the prover at this place is there, and says this
-pub record IsProver {N M : Type 0} (says : M → Says) (heads : List (Opening N M)) (place : Place) (said : Question → ℕ → Option Answer) : Type 0 where
+pub record IsProverAt {N M : Type 0} (says : M → Says) (heads : List (Opening N M)) (place : Place) (said : Question → ℕ → Option Answer) : Type 0 where
   pub head : Opening N M
   pub there : numbered heads place.task ≡ Some head
   pub some : 0 < place.prover
@@ -60,7 +60,7 @@ pub record MayServe {N M : Type 0} (says : M → Says) (board : LockId) (places 
   pub heads : List (Opening N M)
   pub seat : IsSeatOf board heads k
   pub placed : places ≡ places_from 1 heads
-  pub said_all : said ≡ map (said_by says heads) numbers
+  pub said_all : said ≡ map (saying_of says heads) numbers
 
 -- a seat sees that the match of a task is over: what it has seen is the log of a legal journal, at which nothing is open in that match
 pub record SeesOver {N M : Type 0} (ruling : N → Ruling) (says : M → Says) (k : Known (List (Opening N M))) (t : ℕ) : Type 0 where

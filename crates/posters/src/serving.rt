@@ -10,7 +10,7 @@ ghost use Rattle.std.specs.List.{All};
 ghost use Rattle.std.specs.Thread.{IsSync};
 ghost use Rattle.seat_lock.specs.History.{log_of, Begins};
 ghost use Rattle.board_book.specs.declared.book.Opening.{Opening};
-ghost use Rattle.posters.specs.Serving.{kept_of, IsSeatOf, IsProver, MayServe, SeesOver, SeesOverOf};
+ghost use Rattle.posters.specs.Serving.{kept_of, IsSeatOf, IsProverAt, MayServe, SeesOver, SeesOverOf};
 
 use crate::playing::{Place, TaskGate};
 use crate::round_robin::ClassServer;
@@ -178,7 +178,7 @@ impl<'g, J: Judge + Drop, P: Provers + Drop, G: TaskGate> Hall<'g, J, P, G> {
         answerer: &mut A,
     ) -> Turn
         requires sync { IsSync R.row }
-        requires seat { (heads : List (Opening J.Names P.Names)) × IsSeatOf self.now.board heads seat.old × IsProver P.says heads place (A.answers answerer.old) }
+        requires seat { (heads : List (Opening J.Names P.Names)) × IsSeatOf self.now.board heads seat.old × IsProverAt P.says heads place (A.answers answerer.old) }
         ensures seat { kept_of seat.new ≡ kept_of seat.old }
         ensures seen { Begins (log_of seat.old.seen) (log_of seat.new.seen) }
         ensures answerer { A.answers answerer.new ≡ A.answers answerer.old }
@@ -319,7 +319,7 @@ impl<'g, J: Judge + Drop, P: Provers + Drop, A: Answerer, G: TaskGate> ClassServ
     ghost use Rattle.bisect_game.specs.declared.settled.Question.{Question};
     ghost use Rattle.board_book.specs.declared.book.Opening.{Opening};
     ghost use Rattle.seat_lock.specs.Seats.{Known};
-    ghost use Rattle.posters.specs.Serving.{places_from, kept_of, IsSeatOf, said_by};
+    ghost use Rattle.posters.specs.Serving.{places_from, kept_of, IsSeatOf, saying_of};
 
     ghost Kept = { Known (List (Opening J.Names P.Names)) × ℕ };
 
@@ -331,7 +331,7 @@ impl<'g, J: Judge + Drop, P: Provers + Drop, A: Answerer, G: TaskGate> ClassServ
 
     ghost class_of = { λ kept. kept.1 };
 
-    ghost ready = { λ hall kept says. (heads : List (Opening J.Names P.Names)) × IsSeatOf hall.board heads kept.0 × (hall.places.items ≡ places_from 1 heads) × (says ≡ said_by P.says heads) };
+    ghost ready = { λ hall kept says. (heads : List (Opening J.Names P.Names)) × IsSeatOf hall.board heads kept.0 × (hall.places.items ≡ places_from 1 heads) × (says ≡ saying_of P.says heads) };
 
     fn class(&self) -> u32 {
         self.class

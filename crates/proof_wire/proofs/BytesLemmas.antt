@@ -12,7 +12,7 @@ use Rattle.rd_base.specs.declared.opened.InOpening.{InOpening}
 use Rattle.rd_base.specs.declared.proof.Proof.TheVariants.{V1, V2, V3}
 use Rattle.rd_base.specs.declared.answer.Answer.{Answer}
 use Rattle.rd_base.specs.declared.answer.Answer.TheVariants as answers
-use Rattle.proof_wire.specs.Wire.{Form, ◌‖◌, byte, word, double_word, block, given, each, digest, status, control, registers, opening, register_opening, input_opening, optional, flag, count, output, wire_form, Spells}
+use Rattle.proof_wire.specs.Wire.{Form, ◌‖◌, byte, in_four_bytes, in_eight_bytes, block, given, each, digest, status, control, registers, opening, register_opening, input_opening, optional, flagged, count, output, wire_form, Spells}
 use Rattle.proof_wire.proofs.FieldLemmas.{AreBytes}
 
 no_bytes : AreBytes []
@@ -41,12 +41,12 @@ four_bytes : (a b c d : ℕ) (bytes : List ℕ) → a < 256 → b < 256 → c < 
 four_bytes a b c d bytes first second third fourth are =
     one_byte a (b ∷ c ∷ d ∷ bytes) first (one_byte b (c ∷ d ∷ bytes) second (one_byte c (d ∷ bytes) third (one_byte d bytes fourth are)))
 
-word_fine : (n : ℕ) → Fine (word n)
+word_fine : (n : ℕ) → Fine (in_four_bytes n)
 word_fine n = record {
   are = λ fits. four_bytes (n % 256) (n / 256 % 256) (n / 65536 % 256) (n / 16777216 % 256) [] (omega arith) (omega arith) (omega arith) (omega arith) no_bytes;
 }
 
-double_word_fine : (n : ℕ) → Fine (double_word n)
+double_word_fine : (n : ℕ) → Fine (in_eight_bytes n)
 double_word_fine n = record {
   are = λ fits. four_bytes (n % 256) (n / 256 % 256) (n / 65536 % 256) (n / 16777216 % 256)
       (n / 4294967296 % 256 ∷ n / 1099511627776 % 256 ∷ n / 281474976710656 % 256 ∷ n / 72057594037927936 % 256 ∷ [])
@@ -80,7 +80,7 @@ given_fine : (fact : Type 0) → Fine (given fact)
 given_fine fact = record { are = λ fits. no_bytes }
 
 registers_fine : (xs : List ℕ) → Fine (registers xs)
-registers_fine xs = then_fine (given_fine (take 1 xs ≡ 0 ∷ [])) (each_fine word word_fine 31 (drop 1 xs))
+registers_fine xs = then_fine (given_fine (take 1 xs ≡ 0 ∷ [])) (each_fine in_four_bytes word_fine 31 (drop 1 xs))
 
 opening_fine : (o : Opening) → Fine (opening o)
 opening_fine o = then_fine (block_fine 32 o.chunk) (each_fine digest digest_fine 27 o.path.0)
@@ -112,14 +112,14 @@ form_fine (answers.Roots rs) =
     then_fine (byte_fine 5) (then_fine (given_fine ((1 ≤ length rs) × (length rs ≤ 15))) (then_fine (byte_fine (length rs)) (each_fine digest digest_fine (length rs) rs)))
 form_fine (answers.Step (V1 p)) =
     then_fine (byte_fine 3) (then_fine (digest_fine p.mem) (then_fine (registers_fine p.regs) (then_fine (control_fine p.ctl)
-    (then_fine (byte_fine (flag 1 p.fetch + flag 2 p.operand)) (then_fine (optional_fine opening opening_fine p.fetch) (optional_fine opening opening_fine p.operand))))))
+    (then_fine (byte_fine (flagged 1 p.fetch + flagged 2 p.operand)) (then_fine (optional_fine opening opening_fine p.fetch) (optional_fine opening opening_fine p.operand))))))
 form_fine (answers.Step (V2 p)) =
     then_fine (byte_fine 4) (then_fine (digest_fine p.mem) (then_fine (digest_fine p.regs) (then_fine (control_fine p.ctl)
-    (then_fine (byte_fine (flag 1 p.fetch + flag 2 p.operand)) (then_fine (count_fine p.named)
+    (then_fine (byte_fine (flagged 1 p.fetch + flagged 2 p.operand)) (then_fine (count_fine p.named)
     (then_fine (optional_fine opening opening_fine p.fetch) (then_fine (named_fine p.named) (optional_fine opening opening_fine p.operand))))))))
 form_fine (answers.Step (V3 p)) =
     then_fine (byte_fine 6) (then_fine (digest_fine p.mem) (then_fine (word_fine p.input_len) (then_fine (digest_fine p.input_root) (then_fine (digest_fine p.regs) (then_fine (control_fine p.ctl)
-    (then_fine (byte_fine (flag 1 p.fetch + flag 2 p.operand + flag 4 p.input)) (then_fine (count_fine p.named)
+    (then_fine (byte_fine (flagged 1 p.fetch + flagged 2 p.operand + flagged 4 p.input)) (then_fine (count_fine p.named)
     (then_fine (optional_fine opening opening_fine p.fetch) (then_fine (named_fine p.named) (then_fine (optional_fine opening opening_fine p.operand) (optional_fine input_opening input_opening_fine p.input)))))))))))
 
 pub spelled_bytes : (a : Answer) (bytes : List ℕ) → Spells a bytes → AreBytes bytes

@@ -23,7 +23,7 @@ use Rattle.rd_base.specs.declared.answer.Answer.TheVariants as answers
 use Rattle.rd_base.specs.Results.{◌>>=◌}
 use Rattle.proof_wire.specs.declared.fault.WireFault.{WireFault}
 use Rattle.proof_wire.specs.declared.fault.WireFault.TheVariants.{Short, BadTag, BadStatus, TrailingBytes, BadLength}
-use Rattle.proof_wire.specs.Reading.{Read, at_least, at_most, has_flag, block_at, byte_at, word_at, double_word_at, digest_at, each_at, status_of, status_at, control_at, registers_at, opening_at, register_opening_at, input_opening_at, optional_at, output_at, claim_at, root_count, roots_at, step_proof_at, step_proof_2_at, step_proof_3_at, answer_at, answer_in}
+use Rattle.proof_wire.specs.Reading.{Read, at_least, at_most, has_flag, block_ahead, byte_ahead, word_ahead, double_word_ahead, digest_ahead, each_ahead, status_of, status_ahead, control_ahead, registers_ahead, opening_ahead, register_opening_ahead, input_opening_ahead, optional_ahead, output_ahead, claim_ahead, root_count, roots_ahead, step_proof_ahead, step_proof_2_ahead, step_proof_3_ahead, answer_ahead, answer_in}
 use Rattle.proof_wire.specs.FirstFault.{Test, first_fault, word_from, double_word_from, is_whole, is_all, is_within, is_status, is_length, ends, claim_tests, root_tests, roots_tests, chunk_bytes, step_tests, step_2_tests, step_3_tests, tests_of}
 
 -- ---- tests
@@ -47,37 +47,37 @@ Behind {A} bytes place g f want = (x : A) → result_err (g (x, drop place bytes
 abbrev Moves : {A : Type 0} → (List ℕ → Read A) → ℕ → Type 0
 Moves {A} read size = (bytes : List ℕ) → size ≤ length bytes → (x : A) × (read bytes ≡ Ok (x, drop size bytes))
 
-block_is : (size : ℕ) (bytes : List ℕ) → size ≤ length bytes → block_at size bytes ≡ Ok (take size bytes, drop size bytes)
+block_is : (size : ℕ) (bytes : List ℕ) → size ≤ length bytes → block_ahead size bytes ≡ Ok (take size bytes, drop size bytes)
 block_is size bytes long = ap (λ b. cond b (Err Short) (Ok (take size bytes, drop size bytes))) (le-ltb _ _ long)
 
-block_moves : (size : ℕ) → Moves (block_at size) size
+block_moves : (size : ℕ) → Moves (block_ahead size) size
 block_moves size bytes long = (take size bytes, block_is size bytes long)
 
-digest_moves : Moves digest_at 32
-unfolding digest_at
+digest_moves : Moves digest_ahead 32
+unfolding digest_ahead
 digest_moves bytes long = (record { 0 = take 32 bytes }, ap (λ r. r >>= (λ front. Ok (record { 0 = front.0 }, front.1))) (block_is 32 bytes long))
 
-word_is : (bytes : List ℕ) → 4 ≤ length bytes → word_at bytes ≡ Ok (from_le_bytes w32 (take 4 bytes), drop 4 bytes)
-unfolding word_at
+word_is : (bytes : List ℕ) → 4 ≤ length bytes → word_ahead bytes ≡ Ok (from_le_bytes w32 (take 4 bytes), drop 4 bytes)
+unfolding word_ahead
 word_is bytes long = ap (λ r. r >>= (λ front. Ok (from_le_bytes w32 front.0, front.1))) (block_is 4 bytes long)
 
-double_word_is : (bytes : List ℕ) → 8 ≤ length bytes → double_word_at bytes ≡ Ok (from_le_bytes w64 (take 8 bytes), drop 8 bytes)
-unfolding double_word_at
+double_word_is : (bytes : List ℕ) → 8 ≤ length bytes → double_word_ahead bytes ≡ Ok (from_le_bytes w64 (take 8 bytes), drop 8 bytes)
+unfolding double_word_ahead
 double_word_is bytes long = ap (λ r. r >>= (λ front. Ok (from_le_bytes w64 front.0, front.1))) (block_is 8 bytes long)
 
-byte_is : (bytes : List ℕ) → 1 ≤ length bytes → byte_at bytes ≡ Ok (slice_index bytes 0, drop 1 bytes)
-unfolding byte_at
+byte_is : (bytes : List ℕ) → 1 ≤ length bytes → byte_ahead bytes ≡ Ok (slice_index bytes 0, drop 1 bytes)
+unfolding byte_ahead
 byte_is [] long = absurd (omega (arith, long))
 byte_is (b ∷ bytes) long = refl
 
-double_word_moves : Moves double_word_at 8
+double_word_moves : Moves double_word_ahead 8
 double_word_moves bytes long = (from_le_bytes w64 (take 8 bytes), double_word_is bytes long)
 
-word_moves : Moves word_at 4
+word_moves : Moves word_ahead 4
 word_moves bytes long = (from_le_bytes w32 (take 4 bytes), word_is bytes long)
 
-each_moves : {A : Type 0} (read : List ℕ → Read A) (size : ℕ) → Moves read size → (count : ℕ) → Moves (each_at read count) (size * count)
-unfolding each_at
+each_moves : {A : Type 0} (read : List ℕ → Read A) (size : ℕ) → Moves read size → (count : ℕ) → Moves (each_ahead read count) (size * count)
+unfolding each_ahead
 each_moves {A} read size moves zero bytes long =
     let none : size * 0 ≡ 0 = omega arith in
     ([], ap (λ n. Ok ([], drop n bytes)) (sym none))
@@ -86,15 +86,15 @@ each_moves {A} read size moves (suc count) bytes long =
     let a = moves bytes (omega (arith, whole, long)) in
     let b = each_moves read size moves count (drop size bytes) (omega (arith, length-drop size bytes, whole, long)) in (
       a.0 ∷ b.0,
-      ap (λ r. r >>= (λ first. each_at read count first.1 >>= (λ others. Ok (first.0 ∷ others.0, others.1)))) a.1
+      ap (λ r. r >>= (λ first. each_ahead read count first.1 >>= (λ others. Ok (first.0 ∷ others.0, others.1)))) a.1
           ∙ ap (λ r. r >>= (λ others. Ok (a.0 ∷ others.0, others.1))) b.1
           ∙ ap (λ rest. Ok (a.0 ∷ b.0, rest)) (drop-drop (size * count) size bytes ∙ ap (λ n. drop n bytes) whole),
     )
 
-registers_moves : Moves registers_at 124
-unfolding registers_at
+registers_moves : Moves registers_ahead 124
+unfolding registers_ahead
 registers_moves bytes long =
-    let others = each_moves word_at 4 word_moves 31 bytes long in
+    let others = each_moves word_ahead 4 word_moves 31 bytes long in
     (0 ∷ others.0, ap (λ r. r >>= (λ xs. Ok (0 ∷ xs.0, xs.1))) others.1)
 
 -- ---- fields that may be cut off
@@ -104,14 +104,14 @@ record Sized {A : Type 0} (read : List ℕ → Read A) (size : ℕ) : Type 0 whe
   short : (bytes : List ℕ) → length bytes < size → read bytes ≡ Err Short
   whole : Moves read size
 
-block_sized : (size : ℕ) → Sized (block_at size) size
+block_sized : (size : ℕ) → Sized (block_ahead size) size
 block_sized size = record {
   short = λ bytes cut. ap (λ b. cond b (Err Short) (Ok (take size bytes, drop size bytes))) (lt-ltb _ _ cut);
   whole = block_moves size;
 }
 
-digest_sized : Sized digest_at 32
-unfolding digest_at
+digest_sized : Sized digest_ahead 32
+unfolding digest_ahead
 digest_sized = record {
   short = λ bytes cut. ap (λ r. r >>= (λ front. Ok (record { 0 = front.0 }, front.1))) ((block_sized 32).short bytes cut);
   whole = digest_moves;
@@ -127,15 +127,15 @@ at_least_whole size bytes f long = ap (λ b. cond b (Err Short) (Ok bytes) >>= f
 abbrev with_path_at : {A C : Type 0} → (List ℕ → Read A) → ℕ → (A → List Digest32 → C) → List ℕ → Read C
 with_path_at read levels make bytes = do
   front ← read bytes
-  path ← each_at digest_at levels front.1
+  path ← each_ahead digest_ahead levels front.1
   Ok (make front.0 path.0, path.1)
 
 with_path : {A C : Type 0} (read : List ℕ → Read A) (size levels : ℕ) → Moves read size → (make : A → List Digest32 → C) → Moves (with_path_at read levels make) (size + 32 * levels)
 with_path {A} {C} read size levels moves make bytes long =
     let a = moves bytes (omega (arith, long)) in
-    let b = each_moves digest_at 32 digest_moves levels (drop size bytes) (omega (arith, length-drop size bytes, long)) in
+    let b = each_moves digest_ahead 32 digest_moves levels (drop size bytes) (omega (arith, length-drop size bytes, long)) in
     let pathed : (List Digest32 × List ℕ) → Read C = λ path. Ok (make a.0 path.0, path.1) in
-    let fronted : (A × List ℕ) → Read C = λ front. each_at digest_at levels front.1 >>= (λ path. Ok (make front.0 path.0, path.1)) in
+    let fronted : (A × List ℕ) → Read C = λ front. each_ahead digest_ahead levels front.1 >>= (λ path. Ok (make front.0 path.0, path.1)) in
     (make a.0 b.0, ap (λ r. r >>= fronted) a.1 ∙ ap (λ r. r >>= pathed) b.1 ∙ ap (λ rest. Ok (make a.0 b.0, rest)) (drop-drop (32 * levels) size bytes))
 
 abbrev opening_of : List ℕ → List Digest32 → Opening
@@ -147,51 +147,51 @@ register_opening_of value siblings = record { value = value; path = record { 0 =
 abbrev input_opening_of : List ℕ → List Digest32 → InOpening
 input_opening_of chunk siblings = record { chunk = chunk; path = record { 0 = siblings } }
 
-opening_sized : Sized opening_at 896
-unfolding opening_at
+opening_sized : Sized opening_ahead 896
+unfolding opening_ahead
 opening_sized = record {
   short = λ bytes cut. at_least_short 896 bytes _ cut;
   whole = λ bytes long.
-      let found = with_path (block_at 32) 32 27 (block_moves 32) opening_of bytes long in
+      let found = with_path (block_ahead 32) 32 27 (block_moves 32) opening_of bytes long in
       (found.0, at_least_whole 896 bytes _ long ∙ found.1);
 }
 
-register_opening_sized : Sized register_opening_at 164
-unfolding register_opening_at
+register_opening_sized : Sized register_opening_ahead 164
+unfolding register_opening_ahead
 register_opening_sized = record {
   short = λ bytes cut. at_least_short 164 bytes _ cut;
   whole = λ bytes long.
-      let found = with_path word_at 4 5 word_moves register_opening_of bytes long in
+      let found = with_path word_ahead 4 5 word_moves register_opening_of bytes long in
       (found.0, at_least_whole 164 bytes _ long ∙ found.1);
 }
 
-input_opening_sized : Sized input_opening_at 512
-unfolding input_opening_at
+input_opening_sized : Sized input_opening_ahead 512
+unfolding input_opening_ahead
 input_opening_sized = record {
   short = λ bytes cut. at_least_short 512 bytes _ cut;
   whole = λ bytes long.
-      let found = with_path (block_at 32) 32 15 (block_moves 32) input_opening_of bytes long in
+      let found = with_path (block_ahead 32) 32 15 (block_moves 32) input_opening_of bytes long in
       (found.0, at_least_whole 512 bytes _ long ∙ found.1);
 }
 
-each_short : {A : Type 0} (read : List ℕ → Read A) (size : ℕ) → Sized read size → (count : ℕ) (bytes : List ℕ) → length bytes < size * count → each_at read count bytes ≡ Err Short
-unfolding each_at
+each_short : {A : Type 0} (read : List ℕ → Read A) (size : ℕ) → Sized read size → (count : ℕ) (bytes : List ℕ) → length bytes < size * count → each_ahead read count bytes ≡ Err Short
+unfolding each_ahead
 each_short read size sized zero bytes cut = absurd (omega (arith, cut))
 each_short {A} read size sized (suc count) bytes cut =
     let whole : size + size * count ≡ size * suc count = omega arith in
     elim (cases_lt (length bytes) size) [
-      | inl first ↦ ap (λ r. r >>= (λ x. each_at read count x.1 >>= (λ others. Ok (x.0 ∷ others.0, others.1)))) (sized.short bytes first)
+      | inl first ↦ ap (λ r. r >>= (λ x. each_ahead read count x.1 >>= (λ others. Ok (x.0 ∷ others.0, others.1)))) (sized.short bytes first)
       | inr long ↦
           let a = sized.whole bytes long in
-          ap (λ r. r >>= (λ x. each_at read count x.1 >>= (λ others. Ok (x.0 ∷ others.0, others.1)))) a.1
+          ap (λ r. r >>= (λ x. each_ahead read count x.1 >>= (λ others. Ok (x.0 ∷ others.0, others.1)))) a.1
           ∙ ap (λ r. r >>= (λ others. Ok (a.0 ∷ others.0, others.1))) (each_short read size sized count (drop size bytes) (omega (arith, length-drop size bytes, whole, cut, long)))
     ]
 
-each_sized : {A : Type 0} (read : List ℕ → Read A) (size : ℕ) → Sized read size → (count : ℕ) → Sized (each_at read count) (size * count)
+each_sized : {A : Type 0} (read : List ℕ → Read A) (size : ℕ) → Sized read size → (count : ℕ) → Sized (each_ahead read count) (size * count)
 each_sized read size sized count = record { short = each_short read size sized count; whole = each_moves read size sized.whole count }
 
-optional_sized : {A : Type 0} (read : List ℕ → Read A) (size : ℕ) → Sized read size → (is_there : Bool) → Sized (optional_at read is_there) (cond is_there size 0)
-unfolding optional_at
+optional_sized : {A : Type 0} (read : List ℕ → Read A) (size : ℕ) → Sized read size → (is_there : Bool) → Sized (optional_ahead read is_there) (cond is_there size 0)
+unfolding optional_ahead
 optional_sized read size sized false = record {
   short = λ bytes cut. absurd (omega (arith, cut));
   whole = λ bytes long. (None, refl);
@@ -224,10 +224,10 @@ skip read size moves bytes place g f want long behind =
 
 -- a byte
 skip_byte : {B C : Type 0} (bytes : List ℕ) (place : ℕ) (g : (ℕ × List ℕ) → Result B WireFault) (f : B → Result C WireFault) (want : Option WireFault)
-    → place + 1 ≤ length bytes → result_err (g (slice_index bytes place, drop (place + 1) bytes) >>= f) ≡ want → result_err ((byte_at (drop place bytes) >>= g) >>= f) ≡ want
+    → place + 1 ≤ length bytes → result_err (g (slice_index bytes place, drop (place + 1) bytes) >>= f) ≡ want → result_err ((byte_ahead (drop place bytes) >>= g) >>= f) ≡ want
 skip_byte bytes place g f want long behind =
     let is = byte_is (drop place bytes) (omega (arith, length-drop place bytes, long)) in
-    skip_as byte_at 1 bytes place (slice_index bytes place) g f want (is ∙ ap (λ b. Ok (b, drop 1 (drop place bytes))) (get_or-drop place bytes 0 0 ∙ ap (λ n. slice_index bytes n) (omega arith))) behind
+    skip_as byte_ahead 1 bytes place (slice_index bytes place) g f want (is ∙ ap (λ b. Ok (b, drop 1 (drop place bytes))) (get_or-drop place bytes 0 0 ∙ ap (λ n. slice_index bytes n) (omega arith))) behind
 
 -- as many bytes as the fixed part has
 then_whole : {B C : Type 0} (bytes : List ℕ) (place size : ℕ) (g : List ℕ → Result B WireFault) (f : B → Result C WireFault) (ts : List Test)
@@ -315,8 +315,8 @@ status_says byte code =
     ]
 
 then_status : {B C : Type 0} (bytes : List ℕ) (place : ℕ) (g : (Status × List ℕ) → Result B WireFault) (f : B → Result C WireFault) (ts : List Test)
-    → place + 5 ≤ length bytes → Behind bytes (place + 5) g f (first_fault ts) → result_err ((status_at (drop place bytes) >>= g) >>= f) ≡ first_fault (is_status place bytes ∷ ts)
-unfolding status_at
+    → place + 5 ≤ length bytes → Behind bytes (place + 5) g f (first_fault ts) → result_err ((status_ahead (drop place bytes) >>= g) >>= f) ≡ first_fault (is_status place bytes ∷ ts)
+unfolding status_ahead
 then_status {B} {C} bytes place g f ts long behind =
     let v = slice_index bytes place in
     let code = word_from (place + 1) bytes in
@@ -331,22 +331,22 @@ then_status {B} {C} bytes place g f ts long behind =
       | inl found ↦ ap (λ r. result_err ((r >>= give) >>= f')) found.1 ∙ behind' found.0 ∙ sym (passed (is_status_of v code) BadStatus ts found.2)
       | inr bad ↦ ap (λ r. result_err ((r >>= give) >>= f')) bad.0 ∙ sym (failed (is_status_of v code) BadStatus ts bad.1)
     ] in
-    ap result_err (bind_twice (status_at (drop place bytes)) g f)
+    ap result_err (bind_twice (status_ahead (drop place bytes)) g f)
     ∙ skip_byte bytes place _ f' (first_fault want) (omega (arith, long))
-    (skip_as word_at 4 bytes (place + 1) code _ f' (first_fault want) (word_is (drop (place + 1) bytes) (omega (arith, length-drop (place + 1) bytes, long))) says)
+    (skip_as word_ahead 4 bytes (place + 1) code _ f' (first_fault want) (word_is (drop (place + 1) bytes) (omega (arith, length-drop (place + 1) bytes, long))) says)
 
 then_control : {B C : Type 0} (bytes : List ℕ) (place : ℕ) (g : (Ctl × List ℕ) → Result B WireFault) (f : B → Result C WireFault) (ts : List Test)
-    → place + 49 ≤ length bytes → Behind bytes (place + 49) g f (first_fault ts) → result_err ((control_at (drop place bytes) >>= g) >>= f) ≡ first_fault (is_status (place + 4) bytes ∷ ts)
-unfolding control_at
+    → place + 49 ≤ length bytes → Behind bytes (place + 49) g f (first_fault ts) → result_err ((control_ahead (drop place bytes) >>= g) >>= f) ≡ first_fault (is_status (place + 4) bytes ∷ ts)
+unfolding control_ahead
 then_control {B} {C} bytes place g f ts long behind =
     let f' : (Ctl × List ℕ) → Result C WireFault = λ x. g x >>= f in
     let sum : place + 49 ≡ place + 4 + 5 + 8 + 32 = omega arith in
     let behind' : Behind bytes (place + 4 + 5 + 8 + 32) g f (first_fault ts) = subst (λ (n : ℕ). Behind bytes n g f (first_fault ts)) sum behind in
-    ap result_err (bind_twice (control_at (drop place bytes)) g f)
-    ∙ skip word_at 4 word_moves bytes place _ f' (first_fault (is_status (place + 4) bytes ∷ ts)) (omega (arith, long)) (λ pc.
+    ap result_err (bind_twice (control_ahead (drop place bytes)) g f)
+    ∙ skip word_ahead 4 word_moves bytes place _ f' (first_fault (is_status (place + 4) bytes ∷ ts)) (omega (arith, long)) (λ pc.
     then_status bytes (place + 4) _ f' ts (omega (arith, long)) (λ s.
-    skip double_word_at 8 double_word_moves bytes (place + 4 + 5) _ f' (first_fault ts) (omega (arith, long)) (λ out_len.
-    skip digest_at 32 digest_moves bytes (place + 4 + 5 + 8) _ f' (first_fault ts) (omega (arith, long)) (λ chain.
+    skip double_word_ahead 8 double_word_moves bytes (place + 4 + 5) _ f' (first_fault ts) (omega (arith, long)) (λ out_len.
+    skip digest_ahead 32 digest_moves bytes (place + 4 + 5 + 8) _ f' (first_fault ts) (omega (arith, long)) (λ chain.
     behind' (record { pc = pc; status = s; out_len = out_len; chain = chain })))))
 
 -- ---- forms
@@ -354,25 +354,25 @@ then_control {B} {C} bytes place g f ts long behind =
 -- an output whose length is this number
 then_output : {B C : Type 0} (bytes : List ℕ) (size : ℕ) (g : (List ℕ × List ℕ) → Result B WireFault) (f : B → Result C WireFault) → 122 ≤ length bytes
     → ((out : List ℕ) → 122 + size ≤ length bytes → result_err (g (out, drop (122 + size) bytes) >>= f) ≡ first_fault (ends (122 + size) bytes))
-    → result_err ((output_at size (drop 122 bytes) >>= g) >>= f) ≡ first_fault (record { passes = leb size 4294967295; fault = BadLength } ∷ ends (122 + size) bytes)
+    → result_err ((output_ahead size (drop 122 bytes) >>= g) >>= f) ≡ first_fault (record { passes = leb size 4294967295; fault = BadLength } ∷ ends (122 + size) bytes)
 then_output bytes size g f whole behind =
     elim (cases_lt 4294967295 size) [
-      | inl above ↦ ap (λ b. result_err ((cond b (Err BadLength) (block_at size (drop 122 bytes)) >>= g) >>= f)) (lt-ltb _ _ above)
+      | inl above ↦ ap (λ b. result_err ((cond b (Err BadLength) (block_ahead size (drop 122 bytes)) >>= g) >>= f)) (lt-ltb _ _ above)
           ∙ sym (failed (leb size 4294967295) BadLength (ends (122 + size) bytes) (lt-leb _ _ above))
-      | inr small ↦ ap (λ b. result_err ((cond b (Err BadLength) (block_at size (drop 122 bytes)) >>= g) >>= f)) (le-ltb _ _ small)
-          ∙ then_sized (block_at size) size (block_sized size) bytes 122 (122 + size) g f whole (omega arith) behind
+      | inr small ↦ ap (λ b. result_err ((cond b (Err BadLength) (block_ahead size (drop 122 bytes)) >>= g) >>= f)) (le-ltb _ _ small)
+          ∙ then_sized (block_ahead size) size (block_sized size) bytes 122 (122 + size) g f whole (omega arith) behind
           ∙ sym (passed (leb size 4294967295) BadLength (ends (122 + size) bytes) (le-leb _ _ small))
     ]
 
-claim_faults : {C : Type 0} (bytes : List ℕ) (f : (Claim × List ℕ) → Result C WireFault) → 1 ≤ length bytes → Finishes f bytes → result_err (claim_at (drop 1 bytes) >>= f) ≡ first_fault (claim_tests bytes)
-unfolding claim_at
+claim_faults : {C : Type 0} (bytes : List ℕ) (f : (Claim × List ℕ) → Result C WireFault) → 1 ≤ length bytes → Finishes f bytes → result_err (claim_ahead (drop 1 bytes) >>= f) ≡ first_fault (claim_tests bytes)
+unfolding claim_ahead
 claim_faults bytes f some finishes =
     let size = double_word_from 114 bytes in
     then_whole bytes 1 121 _ f (is_status 69 bytes ∷ is_length 114 bytes ∷ ends (122 + size) bytes) some (λ whole.
-    skip digest_at 32 digest_moves bytes 1 _ f _ (omega (arith, whole)) (λ mem.
-    skip digest_at 32 digest_moves bytes 33 _ f _ (omega (arith, whole)) (λ regs.
+    skip digest_ahead 32 digest_moves bytes 1 _ f _ (omega (arith, whole)) (λ mem.
+    skip digest_ahead 32 digest_moves bytes 33 _ f _ (omega (arith, whole)) (λ regs.
     then_control bytes 65 _ f (is_length 114 bytes ∷ ends (122 + size) bytes) (omega (arith, whole)) (λ ctl.
-    skip_as double_word_at 8 bytes 114 size _ f _ (double_word_is (drop 114 bytes) (omega (arith, length-drop 114 bytes, whole)))
+    skip_as double_word_ahead 8 bytes 114 size _ f _ (double_word_is (drop 114 bytes) (omega (arith, length-drop 114 bytes, whole)))
     (then_output bytes size _ f whole (λ out. finishes (record { mem = mem; regs = regs; ctl = ctl; output = out }) (122 + size)))))))
 
 bind_ends : {A : Type 0} (r : Result A WireFault) → r ≡ (r >>= (λ x. Ok x))
@@ -386,8 +386,8 @@ then_last read size sized bytes place f inside finishes =
     ap (λ r. result_err (r >>= f)) (bind_ends (read (drop place bytes)))
     ∙ then_sized read size sized bytes place (place + size) (λ x. Ok x) f inside (omega arith) (λ x whole. finishes x (place + size) whole)
 
-root_faults : {C : Type 0} (bytes : List ℕ) (f : (Digest32 × List ℕ) → Result C WireFault) → 1 ≤ length bytes → Finishes f bytes → result_err (digest_at (drop 1 bytes) >>= f) ≡ first_fault (root_tests bytes)
-root_faults bytes f some finishes = then_last digest_at 32 digest_sized bytes 1 f some finishes
+root_faults : {C : Type 0} (bytes : List ℕ) (f : (Digest32 × List ℕ) → Result C WireFault) → 1 ≤ length bytes → Finishes f bytes → result_err (digest_ahead (drop 1 bytes) >>= f) ≡ first_fault (root_tests bytes)
+root_faults bytes f some finishes = then_last digest_ahead 32 digest_sized bytes 1 f some finishes
 
 -- a number of roots
 then_root_count : {B C : Type 0} (bytes : List ℕ) (g : ℕ → Result B WireFault) (f : B → Result C WireFault) (ts : List Test)
@@ -406,21 +406,21 @@ then_root_count bytes g f ts behind =
           ]
     ]
 
-byte_short : (bytes : List ℕ) → length bytes < 1 → byte_at bytes ≡ Err Short
-unfolding byte_at
+byte_short : (bytes : List ℕ) → length bytes < 1 → byte_ahead bytes ≡ Err Short
+unfolding byte_ahead
 byte_short [] cut = refl
 byte_short (b ∷ bytes) cut = absurd (omega (arith, cut))
 
-roots_faults : {C : Type 0} (bytes : List ℕ) (f : (List Digest32 × List ℕ) → Result C WireFault) → 1 ≤ length bytes → Finishes f bytes → result_err (roots_at (drop 1 bytes) >>= f) ≡ first_fault (roots_tests bytes)
-unfolding roots_at
+roots_faults : {C : Type 0} (bytes : List ℕ) (f : (List Digest32 × List ℕ) → Result C WireFault) → 1 ≤ length bytes → Finishes f bytes → result_err (roots_ahead (drop 1 bytes) >>= f) ≡ first_fault (roots_tests bytes)
+unfolding roots_ahead
 roots_faults bytes f some finishes =
     let v = slice_index bytes 1 in
     let ts : List Test = is_within 1 1 15 bytes ∷ ends (2 + 32 * v) bytes in
     elim (cases_lt (length bytes) 2) [
-      | inl cut ↦ ap (λ r. result_err ((r >>= (λ number. root_count number.0 >>= (λ count. each_at digest_at count number.1))) >>= f)) (byte_short (drop 1 bytes) (omega (arith, length-drop 1 bytes, cut)))
+      | inl cut ↦ ap (λ r. result_err ((r >>= (λ number. root_count number.0 >>= (λ count. each_ahead digest_ahead count number.1))) >>= f)) (byte_short (drop 1 bytes) (omega (arith, length-drop 1 bytes, cut)))
           ∙ sym (failed (leb 2 (length bytes)) Short ts (lt-leb _ _ cut))
       | inr long ↦ skip_byte bytes 1 _ f (first_fault ts) long
-          (then_root_count bytes _ f (ends (2 + 32 * v) bytes) (then_last (each_at digest_at v) (32 * v) (each_sized digest_at 32 digest_sized v) bytes 2 f long finishes))
+          (then_root_count bytes _ f (ends (2 + 32 * v) bytes) (then_last (each_ahead digest_ahead v) (32 * v) (each_sized digest_ahead 32 digest_sized v) bytes 2 f long finishes))
           ∙ sym (passed (leb 2 (length bytes)) Short ts (le-leb _ _ long))
     ]
 
@@ -449,27 +449,27 @@ input_bytes_are (suc (suc (suc (suc (suc (suc zero)))))) few = refl
 input_bytes_are (suc (suc (suc (suc (suc (suc (suc zero))))))) few = refl
 input_bytes_are (suc (suc (suc (suc (suc (suc (suc (suc n)))))))) few = absurd (omega (arith, few))
 
-step_faults : {C : Type 0} (bytes : List ℕ) (f : (StepProof × List ℕ) → Result C WireFault) → 1 ≤ length bytes → Finishes f bytes → result_err (step_proof_at (drop 1 bytes) >>= f) ≡ first_fault (step_tests bytes)
-unfolding step_proof_at
+step_faults : {C : Type 0} (bytes : List ℕ) (f : (StepProof × List ℕ) → Result C WireFault) → 1 ≤ length bytes → Finishes f bytes → result_err (step_proof_ahead (drop 1 bytes) >>= f) ≡ first_fault (step_tests bytes)
+unfolding step_proof_ahead
 step_faults bytes f some finishes =
     let n = slice_index bytes 206 in
     let fetched : ℕ = cond (has_flag 1 n) 896 0 in
     let loaded : ℕ = cond (has_flag 2 n) 896 0 in
     let total : ℕ = 207 + chunk_bytes n in
     then_whole bytes 1 206 _ f (is_status 161 bytes ∷ is_within 206 0 3 bytes ∷ ends total bytes) some (λ whole.
-    skip digest_at 32 digest_moves bytes 1 _ f _ (omega (arith, whole)) (λ mem.
-    skip registers_at 124 registers_moves bytes 33 _ f _ (omega (arith, whole)) (λ regs.
+    skip digest_ahead 32 digest_moves bytes 1 _ f _ (omega (arith, whole)) (λ mem.
+    skip registers_ahead 124 registers_moves bytes 33 _ f _ (omega (arith, whole)) (λ regs.
     then_control bytes 157 _ f (is_within 206 0 3 bytes ∷ ends total bytes) (omega (arith, whole)) (λ ctl.
     skip_byte bytes 206 _ f _ whole
     (then_within bytes 206 3 _ f (ends total bytes) (λ few.
     let sum : fetched + loaded ≡ chunk_bytes n = chunk_bytes_are n (omega (arith, few)) in
     let all : 207 + fetched + loaded ≡ total = omega (arith, sum) in
-    then_sized (optional_at opening_at (has_flag 1 n)) fetched (optional_sized opening_at 896 opening_sized (has_flag 1 n)) bytes 207 total _ f whole (omega (arith, sum)) (λ fetch inside.
-    then_sized (optional_at opening_at (has_flag 2 n)) loaded (optional_sized opening_at 896 opening_sized (has_flag 2 n)) bytes (207 + fetched) total _ f inside (omega (arith, sum)) (λ operand inside1.
+    then_sized (optional_ahead opening_ahead (has_flag 1 n)) fetched (optional_sized opening_ahead 896 opening_sized (has_flag 1 n)) bytes 207 total _ f whole (omega (arith, sum)) (λ fetch inside.
+    then_sized (optional_ahead opening_ahead (has_flag 2 n)) loaded (optional_sized opening_ahead 896 opening_sized (has_flag 2 n)) bytes (207 + fetched) total _ f inside (omega (arith, sum)) (λ operand inside1.
     finishes (record { mem = mem; regs = regs; ctl = ctl; fetch = fetch; operand = operand }) (207 + fetched + loaded) inside1 ∙ ap (λ k. first_fault (ends k bytes)) all))))))))
 
-step_2_faults : {C : Type 0} (bytes : List ℕ) (f : (StepProof2 × List ℕ) → Result C WireFault) → 1 ≤ length bytes → Finishes f bytes → result_err (step_proof_2_at (drop 1 bytes) >>= f) ≡ first_fault (step_2_tests bytes)
-unfolding step_proof_2_at
+step_2_faults : {C : Type 0} (bytes : List ℕ) (f : (StepProof2 × List ℕ) → Result C WireFault) → 1 ≤ length bytes → Finishes f bytes → result_err (step_proof_2_ahead (drop 1 bytes) >>= f) ≡ first_fault (step_2_tests bytes)
+unfolding step_proof_2_ahead
 step_2_faults bytes f some finishes =
     let n = slice_index bytes 114 in
     let count = slice_index bytes 115 in
@@ -477,8 +477,8 @@ step_2_faults bytes f some finishes =
     let loaded : ℕ = cond (has_flag 2 n) 896 0 in
     let total : ℕ = 116 + chunk_bytes n + 164 * count in
     then_whole bytes 1 115 _ f (is_status 69 bytes ∷ is_within 114 0 3 bytes ∷ is_within 115 0 3 bytes ∷ ends total bytes) some (λ whole.
-    skip digest_at 32 digest_moves bytes 1 _ f _ (omega (arith, whole)) (λ mem.
-    skip digest_at 32 digest_moves bytes 33 _ f _ (omega (arith, whole)) (λ regs.
+    skip digest_ahead 32 digest_moves bytes 1 _ f _ (omega (arith, whole)) (λ mem.
+    skip digest_ahead 32 digest_moves bytes 33 _ f _ (omega (arith, whole)) (λ regs.
     then_control bytes 65 _ f (is_within 114 0 3 bytes ∷ is_within 115 0 3 bytes ∷ ends total bytes) (omega (arith, whole)) (λ ctl.
     skip_byte bytes 114 _ f _ (omega (arith, whole))
     (skip_byte bytes 115 _ f _ whole
@@ -486,13 +486,13 @@ step_2_faults bytes f some finishes =
     then_within bytes 115 3 _ f (ends total bytes) (λ few_named.
     let sum : fetched + loaded ≡ chunk_bytes n = chunk_bytes_are n (omega (arith, few)) in
     let all : 116 + fetched + 164 * count + loaded ≡ total = omega (arith, sum) in
-    then_sized (optional_at opening_at (has_flag 1 n)) fetched (optional_sized opening_at 896 opening_sized (has_flag 1 n)) bytes 116 total _ f whole (omega (arith, sum)) (λ fetch inside.
-    then_sized (each_at register_opening_at count) (164 * count) (each_sized register_opening_at 164 register_opening_sized count) bytes (116 + fetched) total _ f inside (omega (arith, sum)) (λ named inside1.
-    then_sized (optional_at opening_at (has_flag 2 n)) loaded (optional_sized opening_at 896 opening_sized (has_flag 2 n)) bytes (116 + fetched + 164 * count) total _ f inside1 (omega (arith, sum)) (λ operand inside2.
+    then_sized (optional_ahead opening_ahead (has_flag 1 n)) fetched (optional_sized opening_ahead 896 opening_sized (has_flag 1 n)) bytes 116 total _ f whole (omega (arith, sum)) (λ fetch inside.
+    then_sized (each_ahead register_opening_ahead count) (164 * count) (each_sized register_opening_ahead 164 register_opening_sized count) bytes (116 + fetched) total _ f inside (omega (arith, sum)) (λ named inside1.
+    then_sized (optional_ahead opening_ahead (has_flag 2 n)) loaded (optional_sized opening_ahead 896 opening_sized (has_flag 2 n)) bytes (116 + fetched + 164 * count) total _ f inside1 (omega (arith, sum)) (λ operand inside2.
     finishes (record { mem = mem; regs = regs; ctl = ctl; fetch = fetch; named = named; operand = operand }) (116 + fetched + 164 * count + loaded) inside2 ∙ ap (λ k. first_fault (ends k bytes)) all)))))))))))
 
-step_3_faults : {C : Type 0} (bytes : List ℕ) (f : (StepProof3 × List ℕ) → Result C WireFault) → 1 ≤ length bytes → Finishes f bytes → result_err (step_proof_3_at (drop 1 bytes) >>= f) ≡ first_fault (step_3_tests bytes)
-unfolding step_proof_3_at
+step_3_faults : {C : Type 0} (bytes : List ℕ) (f : (StepProof3 × List ℕ) → Result C WireFault) → 1 ≤ length bytes → Finishes f bytes → result_err (step_proof_3_ahead (drop 1 bytes) >>= f) ≡ first_fault (step_3_tests bytes)
+unfolding step_proof_3_ahead
 step_3_faults bytes f some finishes =
     let n = slice_index bytes 150 in
     let count = slice_index bytes 151 in
@@ -501,10 +501,10 @@ step_3_faults bytes f some finishes =
     let given : ℕ = cond (has_flag 4 n) 512 0 in
     let total : ℕ = 152 + chunk_bytes n + 164 * count + 512 * (n / 4 % 2) in
     then_whole bytes 1 151 _ f (is_status 105 bytes ∷ is_within 150 0 7 bytes ∷ is_within 151 0 3 bytes ∷ ends total bytes) some (λ whole.
-    skip digest_at 32 digest_moves bytes 1 _ f _ (omega (arith, whole)) (λ mem.
-    skip word_at 4 word_moves bytes 33 _ f _ (omega (arith, whole)) (λ input_len.
-    skip digest_at 32 digest_moves bytes 37 _ f _ (omega (arith, whole)) (λ input_root.
-    skip digest_at 32 digest_moves bytes 69 _ f _ (omega (arith, whole)) (λ regs.
+    skip digest_ahead 32 digest_moves bytes 1 _ f _ (omega (arith, whole)) (λ mem.
+    skip word_ahead 4 word_moves bytes 33 _ f _ (omega (arith, whole)) (λ input_len.
+    skip digest_ahead 32 digest_moves bytes 37 _ f _ (omega (arith, whole)) (λ input_root.
+    skip digest_ahead 32 digest_moves bytes 69 _ f _ (omega (arith, whole)) (λ regs.
     then_control bytes 101 _ f (is_within 150 0 7 bytes ∷ is_within 151 0 3 bytes ∷ ends total bytes) (omega (arith, whole)) (λ ctl.
     skip_byte bytes 150 _ f _ (omega (arith, whole))
     (skip_byte bytes 151 _ f _ whole
@@ -513,10 +513,10 @@ step_3_faults bytes f some finishes =
     let sum : fetched + loaded ≡ chunk_bytes n = chunk_bytes_are n few in
     let input_sum : given ≡ 512 * (n / 4 % 2) = input_bytes_are n few in
     let all : 152 + fetched + 164 * count + loaded + given ≡ total = omega (arith, sum, input_sum) in
-    then_sized (optional_at opening_at (has_flag 1 n)) fetched (optional_sized opening_at 896 opening_sized (has_flag 1 n)) bytes 152 total _ f whole (omega (arith, sum, input_sum)) (λ fetch inside.
-    then_sized (each_at register_opening_at count) (164 * count) (each_sized register_opening_at 164 register_opening_sized count) bytes (152 + fetched) total _ f inside (omega (arith, sum, input_sum)) (λ named inside1.
-    then_sized (optional_at opening_at (has_flag 2 n)) loaded (optional_sized opening_at 896 opening_sized (has_flag 2 n)) bytes (152 + fetched + 164 * count) total _ f inside1 (omega (arith, sum, input_sum)) (λ operand inside2.
-    then_sized (optional_at input_opening_at (has_flag 4 n)) given (optional_sized input_opening_at 512 input_opening_sized (has_flag 4 n)) bytes (152 + fetched + 164 * count + loaded) total _ f inside2 (omega (arith, sum, input_sum)) (λ input inside3.
+    then_sized (optional_ahead opening_ahead (has_flag 1 n)) fetched (optional_sized opening_ahead 896 opening_sized (has_flag 1 n)) bytes 152 total _ f whole (omega (arith, sum, input_sum)) (λ fetch inside.
+    then_sized (each_ahead register_opening_ahead count) (164 * count) (each_sized register_opening_ahead 164 register_opening_sized count) bytes (152 + fetched) total _ f inside (omega (arith, sum, input_sum)) (λ named inside1.
+    then_sized (optional_ahead opening_ahead (has_flag 2 n)) loaded (optional_sized opening_ahead 896 opening_sized (has_flag 2 n)) bytes (152 + fetched + 164 * count) total _ f inside1 (omega (arith, sum, input_sum)) (λ operand inside2.
+    then_sized (optional_ahead input_opening_ahead (has_flag 4 n)) given (optional_sized input_opening_ahead 512 input_opening_sized (has_flag 4 n)) bytes (152 + fetched + 164 * count + loaded) total _ f inside2 (omega (arith, sum, input_sum)) (λ input inside3.
     finishes (record { mem = mem; input_len = input_len; input_root = input_root; regs = regs; ctl = ctl; fetch = fetch; named = named; operand = operand; input = input })
     (152 + fetched + 164 * count + loaded + given) inside3 ∙ ap (λ k. first_fault (ends k bytes)) all))))))))))))))
 
@@ -561,21 +561,21 @@ with_tag : (tag number : ℕ) (bytes : List ℕ) → tag ≡ number → Faults (
 with_tag tag number bytes is faults = subst (λ (n : ℕ). Faults (n ∷ bytes)) (sym is) faults
 
 pub by_places : (bytes : List ℕ) → Faults bytes
-unfolding answer_in answer_at
+unfolding answer_in answer_ahead
 by_places [] = sym (failed (leb 1 0) Short _ refl)
 by_places (tag ∷ bytes) =
     elim (eqb_tells tag 1) [
-      | inl is ↦ with_tag tag 1 bytes is.1 (by_form claim_at answers.Claim 1 bytes _ refl (claim_faults (1 ∷ bytes)))
+      | inl is ↦ with_tag tag 1 bytes is.1 (by_form claim_ahead answers.Claim 1 bytes _ refl (claim_faults (1 ∷ bytes)))
       | inr n1 ↦ elim (eqb_tells tag 2) [
-        | inl is ↦ with_tag tag 2 bytes is.1 (by_form digest_at answers.Root 2 bytes _ refl (root_faults (2 ∷ bytes)))
+        | inl is ↦ with_tag tag 2 bytes is.1 (by_form digest_ahead answers.Root 2 bytes _ refl (root_faults (2 ∷ bytes)))
         | inr n2 ↦ elim (eqb_tells tag 3) [
-          | inl is ↦ with_tag tag 3 bytes is.1 (by_form step_proof_at (λ p. answers.Step (V1 p)) 3 bytes _ refl (step_faults (3 ∷ bytes)))
+          | inl is ↦ with_tag tag 3 bytes is.1 (by_form step_proof_ahead (λ p. answers.Step (V1 p)) 3 bytes _ refl (step_faults (3 ∷ bytes)))
           | inr n3 ↦ elim (eqb_tells tag 4) [
-            | inl is ↦ with_tag tag 4 bytes is.1 (by_form step_proof_2_at (λ p. answers.Step (V2 p)) 4 bytes _ refl (step_2_faults (4 ∷ bytes)))
+            | inl is ↦ with_tag tag 4 bytes is.1 (by_form step_proof_2_ahead (λ p. answers.Step (V2 p)) 4 bytes _ refl (step_2_faults (4 ∷ bytes)))
             | inr n4 ↦ elim (eqb_tells tag 5) [
-              | inl is ↦ with_tag tag 5 bytes is.1 (by_form roots_at answers.Roots 5 bytes _ refl (roots_faults (5 ∷ bytes)))
+              | inl is ↦ with_tag tag 5 bytes is.1 (by_form roots_ahead answers.Roots 5 bytes _ refl (roots_faults (5 ∷ bytes)))
               | inr n5 ↦ elim (eqb_tells tag 6) [
-                | inl is ↦ with_tag tag 6 bytes is.1 (by_form step_proof_3_at (λ p. answers.Step (V3 p)) 6 bytes _ refl (step_3_faults (6 ∷ bytes)))
+                | inl is ↦ with_tag tag 6 bytes is.1 (by_form step_proof_3_ahead (λ p. answers.Step (V3 p)) 6 bytes _ refl (step_3_faults (6 ∷ bytes)))
                 | inr n6 ↦ rw (n1.0, n2.0, n3.0, n4.0, n5.0, n6.0)
                     (sym (passed (leb 1 (length (tag ∷ bytes))) Short _ (le-leb _ _ (some_byte tag bytes)) ∙ failed (leb 1 tag && leb tag 6) BadTag _ (no_tag tag n1.1 n2.1 n3.1 n4.1 n5.1 n6.1)))
               ]

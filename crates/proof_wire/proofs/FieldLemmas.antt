@@ -11,8 +11,8 @@ use Rattle.rd_base.specs.declared.digest.Digest32.{Digest32}
 use Rattle.proof_wire.specs.declared.fault.WireFault.{WireFault}
 use Rattle.proof_wire.specs.declared.fault.WireFault.TheVariants.{Short}
 use Rattle.rd_base.specs.Results.{◌>>=◌}
-use Rattle.proof_wire.specs.Wire.{Form, ◌‖◌, word, double_word, block, each, digest}
-use Rattle.proof_wire.specs.Reading.{Read, at_least, block_at, word_at, double_word_at, digest_at, each_at}
+use Rattle.proof_wire.specs.Wire.{Form, ◌‖◌, in_four_bytes, in_eight_bytes, block, each, digest}
+use Rattle.proof_wire.specs.Reading.{Read, at_least, block_ahead, word_ahead, double_word_ahead, digest_ahead, each_ahead}
 
 -- ---- bytes
 
@@ -98,7 +98,7 @@ at_least_ok size bytes long = ap (λ b. cond b (Err Short) (Ok bytes)) (le-ltb _
 
 -- ---- bytes as they are
 
-pub block_takes : (size : ℕ) (bytes xs rest : List ℕ) → AreBytes bytes → block_at size bytes ≡ Ok (xs, rest) → Takes bytes (block size xs) rest
+pub block_takes : (size : ℕ) (bytes xs rest : List ℕ) → AreBytes bytes → block_ahead size bytes ≡ Ok (xs, rest) → Takes bytes (block size xs) rest
 block_takes size bytes xs rest are e =
     let g = guard_ok (ltb (length bytes) size) Short (take size bytes, drop size bytes) (xs, rest) e in
     let long : size ≤ length bytes = ltb-false _ _ g.0 in
@@ -109,16 +109,16 @@ block_takes size bytes xs rest are e =
       are = AreBytes-drop size bytes are;
     })
 
-pub block_again : (size : ℕ) (xs rest : List ℕ) → length xs ≡ size → block_at size (xs ++ rest) ≡ Ok (xs, rest)
+pub block_again : (size : ℕ) (xs rest : List ℕ) → length xs ≡ size → block_ahead size (xs ++ rest) ≡ Ok (xs, rest)
 block_again size xs rest len =
     let long : ltb (length (xs ++ rest)) size ≡ false = le-ltb _ _ (omega (arith, length-append xs rest)) in
     rw (long, take_at xs rest size len, drop_at xs rest size len) refl
 
-pub digest_reads : Reads digest_at digest
-unfolding digest_at
+pub digest_reads : Reads digest_ahead digest
+unfolding digest_ahead
 digest_reads = record {
   takes = λ bytes d rest are e.
-      let front = bind_ok (block_at 32 bytes) _ (d, rest) e in
+      let front = bind_ok (block_ahead 32 bytes) _ (d, rest) e in
       subst (λ (p : Digest32 × List ℕ). Takes bytes (digest p.0) p.1) (ok_is (record { 0 = front.0.0 }, front.0.1) (d, rest) front.2) (block_takes 32 bytes front.0.0 front.0.1 are front.1);
   again = λ d rest fits. ap (λ r. r >>= (λ front. Ok (record { 0 = front.0 }, front.1))) (block_again 32 d.0 rest fits.0);
 }
@@ -131,12 +131,12 @@ record IsWide (w : Width) (size limit : ℕ) : Type 0 where
   below : (bytes : List ℕ) → AreBytes bytes → from_le_bytes w bytes < limit
 
 abbrev number_at : Width → ℕ → List ℕ → Read ℕ
-number_at w size bytes = block_at size bytes >>= (λ front. Ok (from_le_bytes w front.0, front.1))
+number_at w size bytes = block_ahead size bytes >>= (λ front. Ok (from_le_bytes w front.0, front.1))
 
 number_takes : (w : Width) (size limit : ℕ) → IsWide w size limit → (bytes : List ℕ) (n : ℕ) (rest : List ℕ) → AreBytes bytes
     → number_at w size bytes ≡ Ok (n, rest) → Takes bytes (record { bytes = to_le_bytes w n; fits = n < limit }) rest
 number_takes w size limit wide bytes n rest are e =
-    let front = bind_ok (block_at size bytes) _ (n, rest) e in
+    let front = bind_ok (block_ahead size bytes) _ (n, rest) e in
     let taken = block_takes size bytes front.0.0 front.0.1 are front.1 in
     subst (λ (p : ℕ × List ℕ). Takes bytes (record { bytes = to_le_bytes w p.0; fits = p.0 < limit }) p.1) (ok_is (from_le_bytes w front.0.0, front.0.1) (n, rest) front.2) (record {
       parts = taken.parts ∙ ap (λ xs. xs ++ front.0.1) (sym (wide.back front.0.0 taken.fits.0 taken.fits.1));
@@ -144,8 +144,8 @@ number_takes w size limit wide bytes n rest are e =
       are = taken.are;
     })
 
-pub word_reads : Reads word_at word
-unfolding word_at
+pub word_reads : Reads word_ahead in_four_bytes
+unfolding word_ahead
 word_reads = record {
   takes = number_takes w32 4 (2 ^ 32) (record {
     back = λ bytes len are. le_bytes_4 bytes _ len are refl;
@@ -154,8 +154,8 @@ word_reads = record {
   again = λ n rest fits. ap (λ r. r >>= (λ front. Ok (from_le_bytes w32 front.0, front.1))) (block_again 4 (to_le_bytes w32 n) rest refl) ∙ ap (λ k. Ok (k, rest)) (from_le_bytes-to_le_bytes_4 n fits);
 }
 
-pub double_word_reads : Reads double_word_at double_word
-unfolding double_word_at
+pub double_word_reads : Reads double_word_ahead in_eight_bytes
+unfolding double_word_ahead
 double_word_reads = record {
   takes = number_takes w64 8 (2 ^ 64) (record {
     back = λ bytes len are. le_bytes_8 bytes _ len are refl;
@@ -166,13 +166,13 @@ double_word_reads = record {
 
 -- ---- values one behind another
 
-each_takes : {A : Type 0} (read : List ℕ → Read A) (form : A → Form) → Reads read form → (count : ℕ) (bytes : List ℕ) (xs : List A) (rest : List ℕ) → AreBytes bytes → each_at read count bytes ≡ Ok (xs, rest) → Takes bytes (each form count xs) rest
-unfolding each_at
+each_takes : {A : Type 0} (read : List ℕ → Read A) (form : A → Form) → Reads read form → (count : ℕ) (bytes : List ℕ) (xs : List A) (rest : List ℕ) → AreBytes bytes → each_ahead read count bytes ≡ Ok (xs, rest) → Takes bytes (each form count xs) rest
+unfolding each_ahead
 each_takes {A} read form reads zero bytes xs rest are e =
     subst (λ (p : List A × List ℕ). Takes bytes (each form 0 p.0) p.1) (ok_is ([], bytes) (xs, rest) e) (record { parts = refl; fits = (refl, tt); are = are })
 each_takes {A} read form reads (suc count) bytes xs rest are e =
     let a = bind_ok (read bytes) _ (xs, rest) e in
-    let b = bind_ok (each_at read count a.0.1) _ (xs, rest) a.2 in
+    let b = bind_ok (each_ahead read count a.0.1) _ (xs, rest) a.2 in
     let first = reads.takes bytes a.0.0 a.0.1 are a.1 in
     let others = each_takes read form reads count a.0.1 b.0.0 b.0.1 first.are b.1 in
     let both = Takes-then first others in
@@ -182,20 +182,20 @@ each_takes {A} read form reads (suc count) bytes xs rest are e =
       are = both.are;
     })
 
-each_again : {A : Type 0} (read : List ℕ → Read A) (form : A → Form) → Reads read form → (xs : List A) (rest : List ℕ) → AllByRecursion (λ x. (form x).fits) xs → each_at read (length xs) (flat_map (λ x. (form x).bytes) xs ++ rest) ≡ Ok (xs, rest)
-unfolding each_at
+each_again : {A : Type 0} (read : List ℕ → Read A) (form : A → Form) → Reads read form → (xs : List A) (rest : List ℕ) → AllByRecursion (λ x. (form x).fits) xs → each_ahead read (length xs) (flat_map (λ x. (form x).bytes) xs ++ rest) ≡ Ok (xs, rest)
+unfolding each_ahead
 each_again read form reads [] rest fits = refl
 each_again {A} read form reads (x ∷ xs) rest fits =
     let text = λ (y : A). (form y).bytes in
     let regrouped : flat_map text (x ∷ xs) ++ rest ≡ text x ++ (flat_map text xs ++ rest) = ap (λ bytes. bytes ++ rest) (flat_map-cons text x xs) ∙ append_assoc (text x) (flat_map text xs) rest in
-    ap (each_at read (suc (length xs))) regrouped
+    ap (each_ahead read (suc (length xs))) regrouped
     ∙ next read form reads x (flat_map text xs ++ rest) _ fits.0
     ∙ ap (λ r. r >>= (λ others. Ok (x ∷ others.0, others.1))) (each_again read form reads xs rest fits.1)
 
-pub each_reads : {A : Type 0} (read : List ℕ → Read A) (form : A → Form) → Reads read form → (count : ℕ) → Reads (each_at read count) (each form count)
+pub each_reads : {A : Type 0} (read : List ℕ → Read A) (form : A → Form) → Reads read form → (count : ℕ) → Reads (each_ahead read count) (each form count)
 each_reads read form reads count = record {
   takes = each_takes read form reads count;
-  again = λ xs rest fits. ap (λ n. each_at read n (flat_map (λ x. (form x).bytes) xs ++ rest)) (sym fits.0) ∙ each_again read form reads xs rest fits.1;
+  again = λ xs rest fits. ap (λ n. each_ahead read n (flat_map (λ x. (form x).bytes) xs ++ rest)) (sym fits.0) ∙ each_again read form reads xs rest fits.1;
 }
 
 -- how many bytes they have, where each has so many

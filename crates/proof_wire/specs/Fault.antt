@@ -4,10 +4,10 @@ use Rattle.proof_wire.specs.declared.fault.WireFault.{WireFault}
 use Rattle.proof_wire.specs.declared.fault.WireFault.TheVariants.{Short, BadTag, BadStatus, TrailingBytes, BadLength, Memory}
 
 -- the number of the rule that is broken, and none if memory ran out
-abbrev pub rule_of : WireFault → Option ℕ
-rule_of Short = Some 1
-rule_of BadTag = Some 2
-rule_of BadStatus = Some 3
-rule_of TrailingBytes = Some 4
-rule_of BadLength = Some 5
-rule_of Memory = None
+abbrev pub wire_rule : WireFault → Option ℕ
+wire_rule Short = Some 1
+wire_rule BadTag = Some 2
+wire_rule BadStatus = Some 3
+wire_rule TrailingBytes = Some 4
+wire_rule BadLength = Some 5
+wire_rule Memory = None

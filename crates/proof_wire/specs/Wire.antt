@@ -41,12 +41,12 @@ abbrev pub byte : ℕ → Form
 byte b = record { bytes = b ∷ []; fits = b < 256 }
 
 -- a number of four bytes, the least first
-abbrev pub word : ℕ → Form
-word n = record { bytes = to_le_bytes w32 n; fits = n < 2 ^ 32 }
+abbrev pub in_four_bytes : ℕ → Form
+in_four_bytes n = record { bytes = to_le_bytes w32 n; fits = n < 2 ^ 32 }
 
 -- a number of eight bytes, the least first
-abbrev pub double_word : ℕ → Form
-double_word n = record { bytes = to_le_bytes w64 n; fits = n < 2 ^ 64 }
+abbrev pub in_eight_bytes : ℕ → Form
+in_eight_bytes n = record { bytes = to_le_bytes w64 n; fits = n < 2 ^ 64 }
 
 -- this many bytes, as they are
 abbrev pub block : ℕ → List ℕ → Form
@@ -61,17 +61,17 @@ digest d = block 32 d.0
 
 -- a status with its code, which is 0 of one that is running
 abbrev pub status : Status → Form
-status Running = byte 0 ‖ word 0
-status (Exited code) = byte 1 ‖ word code
-status (Trapped code) = byte 2 ‖ word code
+status Running = byte 0 ‖ in_four_bytes 0
+status (Exited code) = byte 1 ‖ in_four_bytes code
+status (Trapped code) = byte 2 ‖ in_four_bytes code
 
 -- 49 bytes
 abbrev pub control : Ctl → Form
-control c = word c.pc ‖ status c.status ‖ double_word c.out_len ‖ digest c.chain
+control c = in_four_bytes c.pc ‖ status c.status ‖ in_eight_bytes c.out_len ‖ digest c.chain
 
 -- x1 to x31; x0 is 0, and isn't written
 abbrev pub registers : List ℕ → Form
-registers xs = given (take 1 xs ≡ 0 ∷ []) ‖ each word 31 (drop 1 xs)
+registers xs = given (take 1 xs ≡ 0 ∷ []) ‖ each in_four_bytes 31 (drop 1 xs)
 
 -- a chunk of memory, and the siblings from the leaf's up: 896 bytes
 abbrev pub opening : Opening → Form
@@ -79,7 +79,7 @@ opening o = block 32 o.chunk ‖ each digest 27 o.path.0
 
 -- a register's value, and the siblings from the leaf's up: 164 bytes
 abbrev pub register_opening : RegOpening → Form
-register_opening o = word o.value ‖ each digest 5 o.path.0
+register_opening o = in_four_bytes o.value ‖ each digest 5 o.path.0
 
 -- a chunk of the input, and the siblings from the leaf's up: 512 bytes
 abbrev pub input_opening : InOpening → Form
@@ -91,9 +91,9 @@ optional f None = nothing
 optional f (Some x) = f x
 
 -- the number that says that a value is there, and 0 if it isn't
-abbrev pub flag : {A : Type 0} → ℕ → Option A → ℕ
-flag number None = 0
-flag number (Some x) = number
+abbrev pub flagged : {A : Type 0} → ℕ → Option A → ℕ
+flagged number None = 0
+flagged number (Some x) = number
 
 -- the bytes behind the length of a claim's output, at most 4,294,967,295
 abbrev pub output : List ℕ → Form
@@ -101,16 +101,16 @@ output bytes = given (length bytes < 2 ^ 32) ‖ block (length bytes) bytes
 
 -- a claim behind its tag
 abbrev pub claim : claims.Claim → Form
-claim c = digest c.mem ‖ digest c.regs ‖ control c.ctl ‖ double_word (length c.output) ‖ output c.output
+claim c = digest c.mem ‖ digest c.regs ‖ control c.ctl ‖ in_eight_bytes (length c.output) ‖ output c.output
 
 -- several roots behind their tag: how many, 1 to 15, and the roots
 abbrev pub roots : List Digest32 → Form
 roots rs = given ((1 ≤ length rs) × (length rs ≤ 15)) ‖ byte (length rs) ‖ each digest (length rs) rs
 
--- a proof of version 1 behind its tag: flag 1 is the fetched chunk, 2 the data chunk
+-- a proof of version 1 behind its tag: flagged 1 is the fetched chunk, 2 the data chunk
 abbrev pub step_proof : StepProof → Form
 step_proof p =
-    digest p.mem ‖ registers p.regs ‖ control p.ctl ‖ byte (flag 1 p.fetch + flag 2 p.operand)
+    digest p.mem ‖ registers p.regs ‖ control p.ctl ‖ byte (flagged 1 p.fetch + flagged 2 p.operand)
     ‖ optional opening p.fetch ‖ optional opening p.operand
 
 -- how many registers are opened, at most three
@@ -120,14 +120,14 @@ count named = given (length named ≤ 3) ‖ byte (length named)
 -- a proof of version 2 behind its tag, with the flags of version 1
 abbrev pub step_proof_2 : StepProof2 → Form
 step_proof_2 p =
-    digest p.mem ‖ digest p.regs ‖ control p.ctl ‖ byte (flag 1 p.fetch + flag 2 p.operand) ‖ count p.named
+    digest p.mem ‖ digest p.regs ‖ control p.ctl ‖ byte (flagged 1 p.fetch + flagged 2 p.operand) ‖ count p.named
     ‖ optional opening p.fetch ‖ each register_opening (length p.named) p.named ‖ optional opening p.operand
 
--- a proof of version 3 behind its tag: flag 4 is the input's chunk
+-- a proof of version 3 behind its tag: flagged 4 is the input's chunk
 abbrev pub step_proof_3 : StepProof3 → Form
 step_proof_3 p =
-    digest p.mem ‖ word p.input_len ‖ digest p.input_root ‖ digest p.regs ‖ control p.ctl
-    ‖ byte (flag 1 p.fetch + flag 2 p.operand + flag 4 p.input) ‖ count p.named
+    digest p.mem ‖ in_four_bytes p.input_len ‖ digest p.input_root ‖ digest p.regs ‖ control p.ctl
+    ‖ byte (flagged 1 p.fetch + flagged 2 p.operand + flagged 4 p.input) ‖ count p.named
     ‖ optional opening p.fetch ‖ each register_opening (length p.named) p.named ‖ optional opening p.operand
     ‖ optional input_opening p.input
 

@@ -1,6 +1,6 @@
 //! The faults of the bytes of an answer.
 ghost use Rattle.std.specs.Prelude.{◌≡◌};
-ghost use Rattle.proof_wire.specs.Fault.{rule_of};
+ghost use Rattle.proof_wire.specs.Fault.{wire_rule};
 ghost use Rattle.proof_wire.specs.declared.fault.WireFault.TheVariants.{Memory};
 
 use std::alloc::{AllocError, AllocFailed};
@@ -33,7 +33,7 @@ pub enum WireFault {
 impl WireFault {
     /// The number of the rule that is broken, from 1 to 5 in the order of the variants, and `None` for out of memory.
     pub fn rule(self) -> Option<u32>
-        ensures { result ≡ rule_of self }
+        ensures { result ≡ wire_rule self }
     {
         match self {
             WireFault::Short => Some(1),

@@ -1,6 +1,6 @@
 //! Fields at the front of some bytes. Each function gives the field and the bytes behind it.
 ghost use Rattle.std.specs.Prelude.{◌≡◌, ◌≤◌, ◌+◌, ◌*◌, length, Ok, IfOk};
-ghost use Rattle.proof_wire.specs.Reading.{IsExactly, block_at, byte_at, word_at, double_word_at, digest_at, each_at, status_of, status_at, control_at, registers_at, opening_at, register_opening_at, input_opening_at, optional_at, at_most, has_flag};
+ghost use Rattle.proof_wire.specs.Reading.{IsExactly, block_ahead, byte_ahead, word_ahead, double_word_ahead, digest_ahead, each_ahead, status_of, status_ahead, control_ahead, registers_ahead, opening_ahead, register_opening_ahead, input_opening_ahead, optional_ahead, at_most, has_flag};
 
 use crate::fault::WireFault;
 use crate::layout::{
@@ -11,20 +11,20 @@ use rd_base::{
 };
 
 /// A byte.
-#[tactic(auto, unfolding(crate::specs::Reading::byte_at))]
+#[tactic(auto, unfolding(crate::specs::Reading::byte_ahead))]
 pub fn read_byte(bytes: &[u8]) -> (u8, &[u8])
     requires { 1 ≤ length bytes.now }
-    ensures read { byte_at bytes.now ≡ Ok (result.0, result.1.now) }
+    ensures read { byte_ahead bytes.now ≡ Ok (result.0, result.1.now) }
     ensures rest { length bytes.now ≡ length result.1.now + 1 }
 {
     (bytes[0], &bytes[1..])
 }
 
 /// A number of four bytes.
-#[tactic(auto, unfolding(crate::specs::Reading::word_at))]
+#[tactic(auto, unfolding(crate::specs::Reading::word_ahead))]
 pub fn read_word(bytes: &[u8]) -> (u32, &[u8])
     requires { 4 ≤ length bytes.now }
-    ensures read { word_at bytes.now ≡ Ok (result.0, result.1.now) }
+    ensures read { word_ahead bytes.now ≡ Ok (result.0, result.1.now) }
     ensures rest { length bytes.now ≡ length result.1.now + 4 }
 {
     let (front, rest) = bytes.split_at(4);
@@ -33,10 +33,10 @@ pub fn read_word(bytes: &[u8]) -> (u32, &[u8])
 }
 
 /// A number of eight bytes.
-#[tactic(auto, unfolding(crate::specs::Reading::double_word_at))]
+#[tactic(auto, unfolding(crate::specs::Reading::double_word_ahead))]
 pub fn read_double_word(bytes: &[u8]) -> (u64, &[u8])
     requires { 8 ≤ length bytes.now }
-    ensures read { double_word_at bytes.now ≡ Ok (result.0, result.1.now) }
+    ensures read { double_word_ahead bytes.now ≡ Ok (result.0, result.1.now) }
     ensures rest { length bytes.now ≡ length result.1.now + 8 }
 {
     let (front, rest) = bytes.split_at(8);
@@ -49,7 +49,7 @@ pub fn read_double_word(bytes: &[u8]) -> (u64, &[u8])
 /// 32 bytes as they are.
 fn read_block(bytes: &[u8]) -> ([u8; 32], &[u8])
     requires { 32 ≤ length bytes.now }
-    ensures read { block_at 32 bytes.now ≡ Ok (result.0, result.1.now) }
+    ensures read { block_ahead 32 bytes.now ≡ Ok (result.0, result.1.now) }
     ensures rest { length bytes.now ≡ length result.1.now + 32 }
 {
     let (front, rest) = bytes.split_at(32);
@@ -59,10 +59,10 @@ fn read_block(bytes: &[u8]) -> ([u8; 32], &[u8])
 }
 
 /// A digest.
-#[tactic(auto, unfolding(crate::specs::Reading::digest_at))]
+#[tactic(auto, unfolding(crate::specs::Reading::digest_ahead))]
 pub fn read_digest(bytes: &[u8]) -> (Digest32, &[u8])
     requires { 32 ≤ length bytes.now }
-    ensures read { digest_at bytes.now ≡ Ok (result.0, result.1.now) }
+    ensures read { digest_ahead bytes.now ≡ Ok (result.0, result.1.now) }
     ensures rest { length bytes.now ≡ length result.1.now + 32 }
 {
     let (digest, rest) = read_block(bytes);
@@ -82,10 +82,10 @@ fn status_with(byte: u8, code: u32) -> Result<Status, WireFault>
 }
 
 /// A status with its code.
-#[tactic(auto, unfolding(crate::specs::Reading::status_at))]
+#[tactic(auto, unfolding(crate::specs::Reading::status_ahead))]
 fn read_status(bytes: &[u8]) -> Result<(Status, &[u8]), WireFault>
     requires { 5 ≤ length bytes.now }
-    ensures read { IsExactly (λ x. (x.0, x.1.now)) result (status_at bytes.now) }
+    ensures read { IsExactly (λ x. (x.0, x.1.now)) result (status_ahead bytes.now) }
     ensures rest { IfOk result (λ x. length bytes.now ≡ length x.1.now + 5) }
 {
     let (byte, rest) = read_byte(bytes);
@@ -95,10 +95,10 @@ fn read_status(bytes: &[u8]) -> Result<(Status, &[u8]), WireFault>
 }
 
 /// The control fields of a state. `BadStatus` comes if and only if their status byte and code are no status.
-#[tactic(auto, unfolding(crate::specs::Reading::control_at))]
+#[tactic(auto, unfolding(crate::specs::Reading::control_ahead))]
 pub fn read_control(bytes: &[u8]) -> Result<(Ctl, &[u8]), WireFault>
     requires { 49 ≤ length bytes.now }
-    ensures read { IsExactly (λ x. (x.0, x.1.now)) result (control_at bytes.now) }
+    ensures read { IsExactly (λ x. (x.0, x.1.now)) result (control_ahead bytes.now) }
     ensures rest { IfOk result (λ x. length bytes.now ≡ length x.1.now + 49) }
 {
     let (pc, rest) = read_word(bytes);
@@ -115,10 +115,10 @@ pub fn read_control(bytes: &[u8]) -> Result<(Ctl, &[u8]), WireFault>
 }
 
 /// The registers `x1` to `x31`.
-#[tactic(auto, unfolding(crate::specs::Reading::registers_at))]
+#[tactic(auto, unfolding(crate::specs::Reading::registers_ahead))]
 pub fn read_registers(bytes: &[u8]) -> (Regs, &[u8])
     requires { 124 ≤ length bytes.now }
-    ensures read { registers_at bytes.now ≡ Ok (result.0, result.1.now) }
+    ensures read { registers_ahead bytes.now ≡ Ok (result.0, result.1.now) }
     ensures rest { length bytes.now ≡ length result.1.now + 124 }
 {
     let mut regs = Regs::new();
@@ -134,7 +134,7 @@ pub fn read_registers(bytes: &[u8]) -> (Regs, &[u8])
 /// The siblings of a Merkle path over `N` levels, the leaf's first.
 fn read_siblings<const N: usize>(bytes: &[u8]) -> ([Digest32; N], &[u8])
     requires { 32 * N ≤ length bytes.now }
-    ensures { each_at digest_at N bytes.now ≡ Ok (result.0, result.1.now) }
+    ensures { each_ahead digest_ahead N bytes.now ≡ Ok (result.0, result.1.now) }
 {
     let mut siblings = [Digest32::ZERO; N];
     let mut rest = bytes;
@@ -147,9 +147,9 @@ fn read_siblings<const N: usize>(bytes: &[u8]) -> ([Digest32; N], &[u8])
 }
 
 /// A chunk of memory and its Merkle path.
-#[tactic(auto, unfolding(crate::specs::Reading::opening_at))]
+#[tactic(auto, unfolding(crate::specs::Reading::opening_ahead))]
 fn read_opening(bytes: &[u8]) -> Result<(Opening, &[u8]), WireFault>
-    ensures { IsExactly (λ x. (x.0, x.1.now)) result (opening_at bytes.now) }
+    ensures { IsExactly (λ x. (x.0, x.1.now)) result (opening_ahead bytes.now) }
 {
     if bytes.len() < OPENING_BYTES {
         return Err(WireFault::Short);
@@ -161,9 +161,9 @@ fn read_opening(bytes: &[u8]) -> Result<(Opening, &[u8]), WireFault>
 }
 
 /// A register's value and its Merkle path.
-#[tactic(auto, unfolding(crate::specs::Reading::register_opening_at))]
+#[tactic(auto, unfolding(crate::specs::Reading::register_opening_ahead))]
 fn read_register_opening(bytes: &[u8]) -> Result<(RegOpening, &[u8]), WireFault>
-    ensures { IsExactly (λ x. (x.0, x.1.now)) result (register_opening_at bytes.now) }
+    ensures { IsExactly (λ x. (x.0, x.1.now)) result (register_opening_ahead bytes.now) }
 {
     if bytes.len() < REGISTER_OPENING_BYTES {
         return Err(WireFault::Short);
@@ -175,9 +175,9 @@ fn read_register_opening(bytes: &[u8]) -> Result<(RegOpening, &[u8]), WireFault>
 }
 
 /// A chunk of the input and its Merkle path.
-#[tactic(auto, unfolding(crate::specs::Reading::input_opening_at))]
+#[tactic(auto, unfolding(crate::specs::Reading::input_opening_ahead))]
 fn read_input_opening(bytes: &[u8]) -> Result<(InOpening, &[u8]), WireFault>
-    ensures { IsExactly (λ x. (x.0, x.1.now)) result (input_opening_at bytes.now) }
+    ensures { IsExactly (λ x. (x.0, x.1.now)) result (input_opening_ahead bytes.now) }
 {
     if bytes.len() < INPUT_OPENING_BYTES {
         return Err(WireFault::Short);
@@ -189,9 +189,9 @@ fn read_input_opening(bytes: &[u8]) -> Result<(InOpening, &[u8]), WireFault>
 }
 
 /// A chunk of memory and its Merkle path if they are there, and else nothing. `Short` comes if they aren't whole.
-#[tactic(auto, unfolding(crate::specs::Reading::optional_at))]
+#[tactic(auto, unfolding(crate::specs::Reading::optional_ahead))]
 pub fn read_opening_if(is_there: bool, bytes: &[u8]) -> Result<(Option<Opening>, &[u8]), WireFault>
-    ensures { IsExactly (λ x. (x.0, x.1.now)) result (optional_at opening_at is_there bytes.now) }
+    ensures { IsExactly (λ x. (x.0, x.1.now)) result (optional_ahead opening_ahead is_there bytes.now) }
 {
     if !is_there {
         return Ok((None, bytes));
@@ -201,9 +201,9 @@ pub fn read_opening_if(is_there: bool, bytes: &[u8]) -> Result<(Option<Opening>,
 }
 
 /// A chunk of the input and its Merkle path if they are there, and else nothing. `Short` comes if they aren't whole.
-#[tactic(auto, unfolding(crate::specs::Reading::optional_at))]
+#[tactic(auto, unfolding(crate::specs::Reading::optional_ahead))]
 pub fn read_input_if(is_there: bool, bytes: &[u8]) -> Result<(Option<InOpening>, &[u8]), WireFault>
-    ensures { IsExactly (λ x. (x.0, x.1.now)) result (optional_at input_opening_at is_there bytes.now) }
+    ensures { IsExactly (λ x. (x.0, x.1.now)) result (optional_ahead input_opening_ahead is_there bytes.now) }
 {
     if !is_there {
         return Ok((None, bytes));
@@ -215,7 +215,7 @@ pub fn read_input_if(is_there: bool, bytes: &[u8]) -> Result<(Option<InOpening>,
 /// This many opened registers. `Short` comes if they aren't whole.
 pub fn read_named(count: u8, bytes: &[u8]) -> Result<(RegOpenings, &[u8]), WireFault>
     requires { count ≤ 3 }
-    ensures { IsExactly (λ x. (x.0, x.1.now)) result (each_at register_opening_at count bytes.now) }
+    ensures { IsExactly (λ x. (x.0, x.1.now)) result (each_ahead register_opening_ahead count bytes.now) }
 {
     let mut named = RegOpenings::new();
     let mut rest = bytes;

@@ -6,7 +6,7 @@ ghost use Rattle.rd_base.specs.declared.answer.Answer.TheVariants.{Step};
 ghost use Rattle.rd_base.specs.declared.proof.Proof.{Proof};
 ghost use Rattle.proof_wire.specs.declared.fault.WireFault.TheVariants.{Memory, TrailingBytes};
 ghost use Rattle.proof_wire.specs.Wire.{Spells};
-ghost use Rattle.proof_wire.specs.Reading.{IsExactly, digest_at, each_at, output_at, claim_at, root_count, roots_at, step_proof_at, step_proof_2_at, step_proof_3_at, answer_at, answer_in, step_in};
+ghost use Rattle.proof_wire.specs.Reading.{IsExactly, digest_ahead, each_ahead, output_ahead, claim_ahead, root_count, roots_ahead, step_proof_ahead, step_proof_2_ahead, step_proof_3_ahead, answer_ahead, answer_in, step_in};
 
 use crate::fault::WireFault;
 use crate::fields::{
@@ -26,7 +26,7 @@ use std::alloc::Global;
 
 /// A claim's output of this many bytes, and the bytes behind it.
 fn read_output(alloc: Global, size: u64, bytes: &[u8]) -> Result<(ClaimOutput, &[u8]), WireFault>
-    ensures { Gives Memory (λ x. (x.0, x.1.now)) result (output_at size bytes.now) }
+    ensures { Gives Memory (λ x. (x.0, x.1.now)) result (output_ahead size bytes.now) }
 {
     if size > MAX_OUTPUT_BYTES as u64 {
         return Err(WireFault::BadLength);
@@ -41,9 +41,9 @@ fn read_output(alloc: Global, size: u64, bytes: &[u8]) -> Result<(ClaimOutput, &
 }
 
 /// A claim behind its tag, and the bytes behind it.
-#[tactic(auto, unfolding(crate::specs::Reading::claim_at))]
+#[tactic(auto, unfolding(crate::specs::Reading::claim_ahead))]
 fn read_claim(alloc: Global, bytes: &[u8]) -> Result<(Claim, &[u8]), WireFault>
-    ensures { Gives Memory (λ x. (x.0, x.1.now)) result (claim_at bytes.now) }
+    ensures { Gives Memory (λ x. (x.0, x.1.now)) result (claim_ahead bytes.now) }
 {
     if bytes.len() < CLAIM_FIXED_BYTES {
         return Err(WireFault::Short);
@@ -63,9 +63,9 @@ fn read_claim(alloc: Global, bytes: &[u8]) -> Result<(Claim, &[u8]), WireFault>
 }
 
 /// A root behind its tag, and the bytes behind it.
-#[tactic(auto, unfolding(crate::specs::Reading::digest_at))]
+#[tactic(auto, unfolding(crate::specs::Reading::digest_ahead))]
 fn read_root(bytes: &[u8]) -> Result<(Digest32, &[u8]), WireFault>
-    ensures { IsExactly (λ x. (x.0, x.1.now)) result (digest_at bytes.now) }
+    ensures { IsExactly (λ x. (x.0, x.1.now)) result (digest_ahead bytes.now) }
 {
     if bytes.len() < DIGEST_BYTES {
         return Err(WireFault::Short);
@@ -86,7 +86,7 @@ fn count_of_roots(number: u8) -> Result<u8, WireFault>
 
 /// This many digests.
 fn read_digests(alloc: Global, count: u8, bytes: &[u8]) -> Result<(Vec<Digest32>, &[u8]), WireFault>
-    ensures read { Gives Memory (λ x. (x.0.items, x.1.now)) result (each_at digest_at count bytes.now) }
+    ensures read { Gives Memory (λ x. (x.0.items, x.1.now)) result (each_ahead digest_ahead count bytes.now) }
     ensures number { IfOk result (λ x. length x.0.items ≡ count) }
 {
     let mut digests = Vec::new(alloc);
@@ -103,9 +103,9 @@ fn read_digests(alloc: Global, count: u8, bytes: &[u8]) -> Result<(Vec<Digest32>
 }
 
 /// Several roots behind their tag, and the bytes behind them.
-#[tactic(auto, unfolding(crate::specs::Reading::roots_at, crate::specs::Reading::byte_at))]
+#[tactic(auto, unfolding(crate::specs::Reading::roots_ahead, crate::specs::Reading::byte_ahead))]
 fn read_roots(alloc: Global, bytes: &[u8]) -> Result<(RootList, &[u8]), WireFault>
-    ensures { Gives Memory (λ x. (x.0, x.1.now)) result (roots_at bytes.now) }
+    ensures { Gives Memory (λ x. (x.0, x.1.now)) result (roots_ahead bytes.now) }
 {
     match bytes {
         [] => Err(WireFault::Short),
@@ -119,9 +119,9 @@ fn read_roots(alloc: Global, bytes: &[u8]) -> Result<(RootList, &[u8]), WireFaul
 }
 
 /// A proof of version 1 behind its tag, and the bytes behind it.
-#[tactic(auto, unfolding(crate::specs::Reading::step_proof_at))]
+#[tactic(auto, unfolding(crate::specs::Reading::step_proof_ahead))]
 fn read_step(bytes: &[u8]) -> Result<(StepProof, &[u8]), WireFault>
-    ensures { IsExactly (λ x. (x.0, x.1.now)) result (step_proof_at bytes.now) }
+    ensures { IsExactly (λ x. (x.0, x.1.now)) result (step_proof_ahead bytes.now) }
 {
     if bytes.len() < STEP_FIXED_BYTES {
         return Err(WireFault::Short);
@@ -144,9 +144,9 @@ fn read_step(bytes: &[u8]) -> Result<(StepProof, &[u8]), WireFault>
 }
 
 /// A proof of version 2 behind its tag, and the bytes behind it.
-#[tactic(auto, unfolding(crate::specs::Reading::step_proof_2_at))]
+#[tactic(auto, unfolding(crate::specs::Reading::step_proof_2_ahead))]
 fn read_step_2(bytes: &[u8]) -> Result<(StepProof2, &[u8]), WireFault>
-    ensures { IsExactly (λ x. (x.0, x.1.now)) result (step_proof_2_at bytes.now) }
+    ensures { IsExactly (λ x. (x.0, x.1.now)) result (step_proof_2_ahead bytes.now) }
 {
     if bytes.len() < STEP_2_FIXED_BYTES {
         return Err(WireFault::Short);
@@ -173,9 +173,9 @@ fn read_step_2(bytes: &[u8]) -> Result<(StepProof2, &[u8]), WireFault>
 }
 
 /// A proof of version 3 behind its tag, and the bytes behind it.
-#[tactic(auto, unfolding(crate::specs::Reading::step_proof_3_at))]
+#[tactic(auto, unfolding(crate::specs::Reading::step_proof_3_ahead))]
 fn read_step_3(bytes: &[u8]) -> Result<(StepProof3, &[u8]), WireFault>
-    ensures { IsExactly (λ x. (x.0, x.1.now)) result (step_proof_3_at bytes.now) }
+    ensures { IsExactly (λ x. (x.0, x.1.now)) result (step_proof_3_ahead bytes.now) }
 {
     if bytes.len() < STEP_3_FIXED_BYTES {
         return Err(WireFault::Short);
@@ -215,9 +215,9 @@ fn step_answer(alloc: Global, proof: Proof) -> Result<Answer, WireFault>
 }
 
 /// An answer, and the bytes behind it.
-#[tactic(auto, unfolding(crate::specs::Reading::answer_at))]
+#[tactic(auto, unfolding(crate::specs::Reading::answer_ahead))]
 fn read_answer(alloc: Global, bytes: &[u8]) -> Result<(Answer, &[u8]), WireFault>
-    ensures { Gives Memory (λ x. (x.0, x.1.now)) result (answer_at bytes.now) }
+    ensures { Gives Memory (λ x. (x.0, x.1.now)) result (answer_ahead bytes.now) }
 {
     match bytes {
         [] => Err(WireFault::Short),
@@ -291,7 +291,7 @@ fn alone(proof: Proof, rest: &[u8]) -> Result<Proof, WireFault>
 }
 
 /// A step, and nothing behind it.
-#[tactic(auto, unfolding(crate::specs::Reading::answer_in, crate::specs::Reading::answer_at))]
+#[tactic(auto, unfolding(crate::specs::Reading::answer_in, crate::specs::Reading::answer_ahead))]
 fn read_whole_step(bytes: &[u8]) -> Result<Proof, WireFault>
     ensures { result ≡ step_in bytes.now }
 {

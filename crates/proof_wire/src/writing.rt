@@ -1,6 +1,6 @@
 //! Answers as bytes. Each function appends a field. After an `Err`, which is out of memory, a part of the field may be appended.
 ghost use Rattle.std.specs.Prelude.{◌≡◌, ◌+◌, ◌++◌, length, OnOk, IfOk};
-ghost use Rattle.proof_wire.specs.Wire.{byte, word, double_word, digest, block, each, status as status_form, control, registers, opening, register_opening, input_opening, optional, flag as flag_form, claim, roots, count, step_proof, step_proof_2, step_proof_3, proof_form, wire_form, Spells};
+ghost use Rattle.proof_wire.specs.Wire.{byte, in_four_bytes, in_eight_bytes, digest, block, each, status as status_form, control, registers, opening, register_opening, input_opening, optional, flagged as flag_form, claim, roots, count, step_proof, step_proof_2, step_proof_3, proof_form, wire_form, Spells};
 
 use crate::layout::{
     CLAIM_TAG, EXITED, FETCH, INPUT, OPERAND, ROOT_TAG, ROOTS_TAG, RUNNING, STEP_2_TAG, STEP_3_TAG,
@@ -14,8 +14,8 @@ use std::alloc::{AllocError, Global};
 
 /// A number of four bytes.
 fn put_word(out: &mut Vec<u8>, number: u32) -> Result<(), AllocError>
-    ensures bytes { OnOk result (out.new.items ≡ out.old.items ++ (word number).bytes) }
-    ensures fits { (word number).fits }
+    ensures bytes { OnOk result (out.new.items ≡ out.old.items ++ (in_four_bytes number).bytes) }
+    ensures fits { (in_four_bytes number).fits }
 {
     out.extend_from_slice(&number.to_le_bytes())?;
     Ok(())
@@ -23,8 +23,8 @@ fn put_word(out: &mut Vec<u8>, number: u32) -> Result<(), AllocError>
 
 /// A number of eight bytes.
 fn put_double_word(out: &mut Vec<u8>, number: u64) -> Result<(), AllocError>
-    ensures bytes { OnOk result (out.new.items ≡ out.old.items ++ (double_word number).bytes) }
-    ensures fits { (double_word number).fits }
+    ensures bytes { OnOk result (out.new.items ≡ out.old.items ++ (in_eight_bytes number).bytes) }
+    ensures fits { (in_eight_bytes number).fits }
 {
     out.extend_from_slice(&number.to_le_bytes())?;
     Ok(())
@@ -174,7 +174,7 @@ fn put_named(out: &mut Vec<u8>, named: &RegOpenings) -> Result<(), AllocError>
 
 /// A flag if a value is there, and 0 if it isn't.
 fn flag_if<T>(flag: u8, value: &Option<T>) -> u8
-    ensures { result ≡ flag_form flag value.now }
+    ensures { result ≡ flag_form flagged value.now }
 {
     match value {
         Some(_) => flag,

@@ -7,7 +7,7 @@ use Rattle.checkpoint_run.specs.TamperedRun.{tampered, run_from}
 use Rattle.checkpoint_run.specs.Recorded.{Recorded, state_of_step}
 use Rattle.bisect_game.specs.declared.settled.Kind.{Kind}
 use Rattle.bisect_game.specs.declared.settled.Kind.TheVariants as kind
-use Rattle.segment_replay.specs.Roots.{own_root, root_at, digests}
+use Rattle.segment_replay.specs.Roots.{root_of_state, root_at, digests}
 use Rattle.prover_run.specs.Growing.{OutputGrowsSlowly}
 use Rattle.bisect_game.specs.Bisection.{steps_asked}
 use Rattle.plain_answers.specs.Plain.{plain, plain_root}
@@ -36,8 +36,8 @@ states_of p r first tamper = ap (λ t. run_from t r.first) tamper ∙ ap (run_fr
 pub roots_of_run : (digest : List ℕ → List ℕ) (p : Prover) (r : Recorded) → IsRunOf digest p r → root_of digest p ≡ root_at digest r
 unfolding root_of
 roots_of_run digest p r is =
-    ap (λ (run : ℕ → State). let f : ℕ → List ℕ = λ i. own_root digest (run (min i p.bound)) in f) (sym is.states)
-    ∙ ap (λ (bound : ℕ). let f : ℕ → List ℕ = λ i. own_root digest (state_of_step r (min i bound)) in f) (sym is.bound)
+    ap (λ (run : ℕ → State). let f : ℕ → List ℕ = λ i. root_of_state digest (run (min i p.bound)) in f) (sym is.states)
+    ∙ ap (λ (bound : ℕ). let f : ℕ → List ℕ = λ i. root_of_state digest (state_of_step r (min i bound)) in f) (sym is.bound)
 
 -- and so are the plain answers
 pub answers_of_run : (digest : List ℕ → List ℕ) (p : Prover) (r : Recorded) (k : Kind) → IsRunOf digest p r → plain digest (state_of_step r) r.bound k ≡ plain digest (run_of p) p.bound k
@@ -59,7 +59,7 @@ roots_of_digests digest p [] [] same = refl
 roots_of_digests digest p [] (r ∷ rs) same = absurd (cc)
 roots_of_digests digest p (i ∷ steps) [] same = absurd (cc)
 roots_of_digests digest p (i ∷ steps) (r ∷ rs) same =
-    let first : r.0 ≡ own_root digest (run_of p (min i p.bound)) = cc in
+    let first : r.0 ≡ root_of_state digest (run_of p (min i p.bound)) = cc in
     ap₂ (λ (x : Digest32) (xs : List Digest32). x ∷ xs) (λ j. record { 0 = first j }) (roots_of_digests digest p steps rs (cc))
 
 pub roots_answer : (digest : List ℕ → List ℕ) (p : Prover) (k : Kind) (lo hi parts : ℕ) (roots : List Digest32) → k ≡ kind.Roots lo hi parts

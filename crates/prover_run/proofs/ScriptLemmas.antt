@@ -22,7 +22,7 @@ use Rattle.bisect_game.specs.Bisection.{steps_asked}
 use Rattle.bisect_game.specs.declared.settled.Question.{Question}
 use Rattle.rv_step.specs.Step.{state_at}
 use Rattle.rv_step.specs.Alike.{named_at}
-use Rattle.open_proof.specs.PlainProof.{register_opening, registers_opened, plain_facts, plain_proof}
+use Rattle.open_proof.specs.PlainProof.{opened_register, registers_opened, plain_facts, plain_proof}
 use Rattle.open_proof.specs.Facts.{named_called, proof_by}
 use Rattle.open_proof.specs.Shown.{tree_by}
 use Rattle.open_proof.specs.declared.facts.HeldRegisters.TheVariants.{Opened}
@@ -61,10 +61,10 @@ opened-same true o value holds = let same = holds refl in λ i. record { value =
 opened-same false o value holds = refl
 
 kept-opened : (digest : List ℕ → List ℕ) (xs : List ℕ) (reg value : ℕ) → slice_index xs reg ≡ value → (rs : List ℕ)
-    → with_opened reg value (map (register_opening digest xs) rs) rs ≡ map (register_opening digest xs) rs
+    → with_opened reg value (map (opened_register digest xs) rs) rs ≡ map (opened_register digest xs) rs
 kept-opened digest xs reg value holds [] = refl
 kept-opened digest xs reg value holds (r ∷ rs) = ap₂ (λ (o : RegOpening) (os : List RegOpening). o ∷ os)
-    (opened-same (r == reg) (register_opening digest xs r) value (λ same. let e : r ≡ reg = grind (arith, nat_tests) in ap (slice_index xs) e ∙ holds))
+    (opened-same (r == reg) (opened_register digest xs r) value (λ same. let e : r ≡ reg = grind (arith, nat_tests) in ap (slice_index xs) e ∙ holds))
     (kept-opened digest xs reg value holds rs)
 
 -- the plain proof of a state names what the state's next instruction names
@@ -73,16 +73,16 @@ NameRegisters = (digest : List ℕ → List ℕ) (s : State) → named_called (p
 
 -- the plain proof of a state with a register that shows what it holds, in each version
 module _ (name : NameRegisters) (digest : List ℕ → List ℕ) (s : State) (reg value : ℕ) (holds : slice_index s.regs reg ≡ value) where
-  named-same : with_opened reg value (map (register_opening digest s.regs) (named_at s)) (named_called (plain_facts digest s)) ≡ map (register_opening digest s.regs) (named_at s)
+  named-same : with_opened reg value (map (opened_register digest s.regs) (named_at s)) (named_called (plain_facts digest s)) ≡ map (opened_register digest s.regs) (named_at s)
   named-same =
-      ap (λ (rs : List ℕ). with_opened reg value (map (register_opening digest s.regs) (named_at s)) rs) (name digest s)
+      ap (λ (rs : List ℕ). with_opened reg value (map (opened_register digest s.regs) (named_at s)) rs) (name digest s)
       ∙ kept-opened digest s.regs reg value holds (named_at s)
 
   abbrev by_scheme : RegisterScheme → InputScheme → Proof
   by_scheme r t = proof_by (plain_facts digest s) (registers_opened digest r s.regs (named_at s)) (tree_by digest t s.input)
 
   opened-shown : (root : Digest32) (tree : Option HeldInput) →
-      let opened : HeldRegisters = Opened root (map (register_opening digest s.regs) (named_at s)) in
+      let opened : HeldRegisters = Opened root (map (opened_register digest s.regs) (named_at s)) in
       with_shown reg value (proof_by (plain_facts digest s) opened tree) ≡ proof_by (plain_facts digest s) opened tree
   opened-shown root None = ap (λ (os : List RegOpening). proof_by (plain_facts digest s) (Opened root os) None) named-same
   opened-shown root (Some t) = ap (λ (os : List RegOpening). proof_by (plain_facts digest s) (Opened root os) (Some t)) named-same

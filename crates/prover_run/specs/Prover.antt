@@ -14,7 +14,7 @@ use Rattle.checkpoint_run.specs.TamperedRun.{run_at}
 use Rattle.rv_step.specs.StateCode.{state_code}
 use Rattle.checkpoint_run.specs.Recorded.{Recorded, AreChained, state_of_step}
 use Rattle.state_commit.specs.Committing.{HasInput}
-use Rattle.segment_replay.specs.Roots.{own_root}
+use Rattle.segment_replay.specs.Roots.{root_of_state}
 use Rattle.bisect_game.specs.declared.settled.Question.{Question}
 use Rattle.plain_answers.specs.Plain.{plain_says}
 
@@ -43,7 +43,7 @@ prover_says digest p = plain_says digest (run_of p) p.bound
 
 -- the root of its state of a step; above the bound the last state stands for it
 unfoldable pub root_of : (List ℕ → List ℕ) → Prover → ℕ → List ℕ
-root_of digest p i = own_root digest (run_of p (min i p.bound))
+root_of digest p i = root_of_state digest (run_of p (min i p.bound))
 
 -- a recorded run is the prover's, and its checkpoints are chained by this digest
 pub record IsRunOf (digest : List ℕ → List ℕ) (p : Prover) (r : Recorded) : Type 0 where

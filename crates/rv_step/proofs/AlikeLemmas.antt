@@ -15,8 +15,8 @@ use Rattle.rv_step.specs.NextEffect.{seen_of, effect_at, effect_of_word, next_ef
 use Rattle.rv_step.specs.Step.{step, after_next, after_effect, regs_after}
 use Rattle.rv_step.specs.declared.effect.Effect.{Effect}
 use Rattle.rv_step.specs.declared.effect.Effect.TheVariants.{Write, Jump, Branch, Next, Store, Put, Exit, Trap}
-use Rattle.rv_step.specs.Named.{first_source, second_source, destination, kept, once, named, named_by, WritesOnly}
-use Rattle.rv_step.specs.Alike.{with_registers, Shows, StepAlike, is_among, ChangesNamed}
+use Rattle.rv_step.specs.Named.{first_source, second_source, destination, if_named, once, named, named_by, WritesOnly}
+use Rattle.rv_step.specs.Alike.{with_registers, Shows, StepAlike, has_register, ChangesNamed}
 use Rattle.rv_step.proofs.NamedLemmas.{named-effect, effect-writes}
 
 -- a write of one register to two files
@@ -85,21 +85,21 @@ effect-zero xs pc d (Jump rd target) is zero r = written-zero xs rd _ r (is ∙ 
 effect-zero xs pc d e is zero r = refl
 
 -- what isn't among three registers
-among-kept : (t : Bool) (q : ℕ) (rest : List ℕ) (r : ℕ) → is_among (kept t q ++ rest) r ≡ false → (t ≡ true → q ≢ r) × (is_among rest r ≡ false)
-among-kept true q rest r out = let both = or_parts (eqb q r) (is_among rest r) out in (λ _ e. eqb-false q r both.0 e, both.1)
-among-kept false q rest r out = (λ test. absurd (true≢false (sym test)), out)
+among-if_named : (t : Bool) (q : ℕ) (rest : List ℕ) (r : ℕ) → has_register (if_named t q ++ rest) r ≡ false → (t ≡ true → q ≢ r) × (has_register rest r ≡ false)
+among-if_named true q rest r out = let both = or_parts (eqb q r) (has_register rest r) out in (λ _ e. eqb-false q r both.0 e, both.1)
+among-if_named false q rest r out = (λ test. absurd (true≢false (sym test)), out)
 
-among-last : (t : Bool) (r : ℕ) → is_among (kept t r) r ≡ false → t ≡ true → ⊥
+among-last : (t : Bool) (r : ℕ) → has_register (if_named t r) r ≡ false → t ≡ true → ⊥
 among-last true r out test = let both = or_parts (eqb r r) false out in eqb-false r r both.0 refl
 among-last false r out test = absurd (true≢false (sym test))
 
-last-among : (a b c : ℕ) → is_among (once a b c) c ≡ false → c ≡ 0
+last-among : (a b c : ℕ) → has_register (once a b c) c ≡ false → c ≡ 0
 last-among a b c out = ⊎_elim (λ zero. zero) (λ some. absurd (never some)) (cases_eq c 0)
   where
     never : c ≢ 0 → ⊥
     never some =
-        let first = among-kept (not (eqb a 0)) a (kept (not (eqb b 0) && not (eqb b a)) b ++ kept (not (eqb c 0) && not (eqb c a) && not (eqb c b)) c) c out in
-        let second = among-kept (not (eqb b 0) && not (eqb b a)) b (kept (not (eqb c 0) && not (eqb c a) && not (eqb c b)) c) c first.1 in
+        let first = among-if_named (not (eqb a 0)) a (if_named (not (eqb b 0) && not (eqb b a)) b ++ if_named (not (eqb c 0) && not (eqb c a) && not (eqb c b)) c) c out in
+        let second = among-if_named (not (eqb b 0) && not (eqb b a)) b (if_named (not (eqb c 0) && not (eqb c a) && not (eqb c b)) c) c first.1 in
         ⊎_elim
         (λ same. let a_some : a ≢ 0 = λ e. some (same ∙ e) in first.0 (rw (ne_eqb a 0 a_some) refl) (sym same))
         (λ apart. ⊎_elim
@@ -110,7 +110,7 @@ last-among a b c out = ⊎_elim (λ zero. zero) (λ some. absurd (never some)) (
 
 -- what changes after an effect
 abbrev Changes : State → List ℕ → List ℕ → Type 0
-Changes s rs after = ((r : ℕ) → is_among rs r ≡ false → x after r ≡ x s.regs r) × ((r q : ℕ) → x after r ≢ x s.regs r → q ≢ r → x after q ≡ x s.regs q)
+Changes s rs after = ((r : ℕ) → has_register rs r ≡ false → x after r ≡ x s.regs r) × ((r q : ℕ) → x after r ≢ x s.regs r → q ≢ r → x after q ≡ x s.regs q)
 
 word-changes : (s : State) (o : Option Instr) → Changes s (named_by o) (after_effect s (effect_of_word (seen_of s) o)).regs
 unfolding named
@@ -120,7 +120,7 @@ word-changes s (Some i) =
     let d = destination i in
     let only = effect-writes (offered (scheme_of s.version).input (byte_or_ones s.input)) s.regs s.pc (λ addr width. number_at s.memory addr width) i in (
       λ r out. ⊎_elim
-          (λ here. effect-zero s.regs s.pc d e only (last-among (first_source i) (second_source i) d (subst (λ k. is_among (once (first_source i) (second_source i) d) k ≡ false) here out)) r)
+          (λ here. effect-zero s.regs s.pc d e only (last-among (first_source i) (second_source i) d (subst (λ k. has_register (once (first_source i) (second_source i) d) k ≡ false) here out)) r)
           (λ other. effect-elsewhere s.regs s.pc d e only r other)
           (cases_eq r d),
       λ r q changed apart. ⊎_elim

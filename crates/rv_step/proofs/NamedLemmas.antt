@@ -19,7 +19,7 @@ use Rattle.rv_step.specs.Parts.{needed_in, load_needed, store_needed, call_neede
 use Rattle.rv_step.specs.declared.asked.Need.TheVariants as need
 use Rattle.rv_step.specs.declared.effect.Effect.{Effect}
 use Rattle.rv_step.specs.declared.effect.Effect.TheVariants.{Write, Jump, Branch, Next, Store, Put, Exit, Trap}
-use Rattle.rv_step.specs.Named.{first_in, second_in, written_in, first_source, second_source, destination, kept, once, named, named_by, AreRegisters, WritesOnly}
+use Rattle.rv_step.specs.Named.{first_in, second_in, written_in, first_source, second_source, destination, if_named, once, named, named_by, AreRegisters, WritesOnly}
 
 -- two register files in which the registers that an instruction reads hold the same: by the shapes of instructions
 module _ (offer : Option (ℕ → ℕ)) (xs ys : List ℕ) (pc : ℕ) (read : ℕ → ℕ → ℕ) where
@@ -115,11 +115,11 @@ module _ (offer : Option (ℕ → ℕ)) (xs ys : List ℕ) (pc : ℕ) (read : �
 
 -- three registers without x0, each at its first place
 module _ (f g : ℕ → ℕ) (zeros : f 0 ≡ g 0) where
-  part : (t : Bool) (r : ℕ) (rest : List ℕ) → map f (kept t r ++ rest) ≡ map g (kept t r ++ rest) → (t ≡ true → f r ≡ g r) × (map f rest ≡ map g rest)
+  part : (t : Bool) (r : ℕ) (rest : List ℕ) → map f (if_named t r ++ rest) ≡ map g (if_named t r ++ rest) → (t ≡ true → f r ≡ g r) × (map f rest ≡ map g rest)
   part true r rest same = (λ _. cc, cc)
   part false r rest same = (λ test. absurd (true≢false (sym test)), same)
 
-  last : (t : Bool) (r : ℕ) → map f (kept t r) ≡ map g (kept t r) → t ≡ true → f r ≡ g r
+  last : (t : Bool) (r : ℕ) → map f (if_named t r) ≡ map g (if_named t r) → t ≡ true → f r ≡ g r
   last true r same test = cc
   last false r same test = absurd (true≢false (sym test))
 
@@ -131,8 +131,8 @@ module _ (f g : ℕ → ℕ) (zeros : f 0 ≡ g 0) where
 
   pub once-same : (a b c : ℕ) → map f (once a b c) ≡ map g (once a b c) → (f a ≡ g a) × (f b ≡ g b) × (f c ≡ g c)
   once-same a b c same =
-      let first = part (not (eqb a 0)) a (kept (not (eqb b 0) && not (eqb b a)) b ++ kept (not (eqb c 0) && not (eqb c a) && not (eqb c b)) c) same in
-      let second = part (not (eqb b 0) && not (eqb b a)) b (kept (not (eqb c 0) && not (eqb c a) && not (eqb c b)) c) first.1 in
+      let first = part (not (eqb a 0)) a (if_named (not (eqb b 0) && not (eqb b a)) b ++ if_named (not (eqb c 0) && not (eqb c a) && not (eqb c b)) c) same in
+      let second = part (not (eqb b 0) && not (eqb b a)) b (if_named (not (eqb c 0) && not (eqb c a) && not (eqb c b)) c) first.1 in
       let third = last (not (eqb c 0) && not (eqb c a) && not (eqb c b)) c second.1 in
       let fa : f a ≡ g a = ⊎_elim (at-zero a) (λ n. first.0 (rw (ne_eqb a 0 n) refl)) (cases_eq a 0) in
       let fb : f b ≡ g b = ⊎_elim (at-zero b) (λ n. ⊎_elim (λ e. at-same b a e fa) (λ m. second.0 (rw (ne_eqb b 0 n, ne_eqb b a m) refl)) (cases_eq b a)) (cases_eq b 0) in
@@ -246,11 +246,11 @@ pub last-below : (i : Instr) → destination i < 32
 unfolding destination
 last-below i = written_in-below (fields_of i)
 
-registers-after : (t : Bool) (r : ℕ) (rest : List ℕ) → r < 32 → AreRegisters rest → AreRegisters (kept t r ++ rest)
+registers-after : (t : Bool) (r : ℕ) (rest : List ℕ) → r < 32 → AreRegisters rest → AreRegisters (if_named t r ++ rest)
 registers-after true r rest low others = (low, others)
 registers-after false r rest low others = others
 
-registers-alone : (t : Bool) (r : ℕ) → r < 32 → AreRegisters (kept t r)
+registers-alone : (t : Bool) (r : ℕ) → r < 32 → AreRegisters (if_named t r)
 registers-alone true r low = (low, tt)
 registers-alone false r low = tt
 
@@ -258,7 +258,7 @@ once-registers : (a b c : ℕ) → a < 32 → b < 32 → c < 32 → AreRegisters
 once-registers a b c first second last =
     let t = not (eqb c 0) && not (eqb c a) && not (eqb c b) in
     let u = not (eqb b 0) && not (eqb b a) in
-    registers-after (not (eqb a 0)) a (kept u b ++ kept t c) first (registers-after u b (kept t c) second (registers-alone t c last))
+    registers-after (not (eqb a 0)) a (if_named u b ++ if_named t c) first (registers-after u b (if_named t c) second (registers-alone t c last))
 
 pub names-below : (o : Option Instr) → AreRegisters (named_by o)
 unfolding named

@@ -31,11 +31,11 @@ pub record StepAlike (xs : List ℕ) (s t u : State) : Type 0 where
   pub regs : (r : ℕ) → slice_index xs r ≡ slice_index s.regs r → slice_index t.regs r ≡ slice_index u.regs r
 
 -- a register is among these
-abbrev pub is_among : List ℕ → ℕ → Bool
-is_among [] r = false
-is_among (q ∷ qs) r = (q == r) || is_among qs r
+abbrev pub has_register : List ℕ → ℕ → Bool
+has_register [] r = false
+has_register (q ∷ qs) r = (q == r) || has_register qs r
 
 -- a step changes at most one register, and a named one
 pub record ChangesNamed (s : State) : Type 0 where
-  pub elsewhere : (r : ℕ) → is_among (named_at s) r ≡ false → slice_index (step s).regs r ≡ slice_index s.regs r
+  pub elsewhere : (r : ℕ) → has_register (named_at s) r ≡ false → slice_index (step s).regs r ≡ slice_index s.regs r
   pub one : (r q : ℕ) → slice_index (step s).regs r ≢ slice_index s.regs r → q ≢ r → slice_index (step s).regs q ≡ slice_index s.regs q

@@ -48,15 +48,15 @@ unfoldable pub destination : Instr → ℕ
 destination i = written_in (fields_of i)
 
 -- a register, if a test says so
-abbrev pub kept : Bool → ℕ → List ℕ
-kept test r = if test then r ∷ [] else []
+abbrev pub if_named : Bool → ℕ → List ℕ
+if_named test r = if test then r ∷ [] else []
 
 -- three registers without x0, each at its first place
 abbrev pub once : ℕ → ℕ → ℕ → List ℕ
 once a b c =
-    kept (not (a == 0)) a
-    ++ (kept (not (b == 0) && not (b == a)) b
-    ++ kept (not (c == 0) && not (c == a) && not (c == b)) c)
+    if_named (not (a == 0)) a
+    ++ (if_named (not (b == 0) && not (b == a)) b
+    ++ if_named (not (c == 0) && not (c == a) && not (c == b)) c)
 
 unfoldable pub named : Instr → List ℕ
 named i = once (first_source i) (second_source i) (destination i)

@@ -11,10 +11,10 @@ stored_page (Store addr width value) = Some (addr / 4096)
 stored_page e = None
 
 -- the page that a step stores to by its effect, if it has one
-abbrev pub page_of : Option Effect → Option ℕ
-page_of (Some e) = stored_page e
-page_of None = None
+abbrev pub page_of_effect : Option Effect → Option ℕ
+page_of_effect (Some e) = stored_page e
+page_of_effect None = None
 
 -- the page that the step from a state stores to, if it stores
 unfoldable pub touched : State → Option ℕ
-touched s = page_of (next_effect (seen_of s))
+touched s = page_of_effect (next_effect (seen_of s))

@@ -40,7 +40,7 @@ impl Names {
     /// One more behind the others, if it is kept.
     fn push(&mut self, kept: bool, reg: u8)
         requires { length self.old < 3 }
-        ensures { self.new ≡ self.old ++ named.kept kept reg }
+        ensures { self.new ≡ self.old ++ named.if_named kept reg }
     {
         if kept {
             self.items[self.len] = reg;

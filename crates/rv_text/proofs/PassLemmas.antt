@@ -4,7 +4,7 @@ use Rattle.std.proofs.lemmas.List.{take_all}
 use Rattle.rd_base.specs.Results.{◌>>=◌, map_fault, Fails}
 use Rattle.rv_text.specs.Characters.{is_of_line, run, behind, source_lines}
 use Rattle.rv_text.specs.Faults.{fault}
-use Rattle.rv_text.specs.Assembly.{Names, place_after, Pass, after_line, first_pass, also, word_of_line, second_pass}
+use Rattle.rv_text.specs.Assembly.{Names, place_after, Pass, after_line, first_pass, with_word, word_of_line, second_pass}
 use Rattle.rv_text.specs.Places.{error_in, names_of}
 use Rattle.rv_text.specs.declared.fault.FaultKind.{FaultKind}
 use Rattle.rv_text.specs.declared.fault.AsmFault.{AsmFault}
@@ -65,16 +65,16 @@ pub append-none : (xs : List ℕ) → xs ++ [] ≡ xs
 append-none [] = refl
 append-none (x ∷ xs) = ap (λ t. x ∷ t) (append-none xs)
 
-also-append : (xs : List ℕ) (w : Option ℕ) (ws : List ℕ) → xs ++ also w ws ≡ (xs ++ also w []) ++ ws
-also-append xs None ws = let none = append-none xs in ap (λ t. t ++ ws) (sym none)
-also-append xs (Some w) ws = sym (append_assoc xs (w ∷ []) ws)
+with_word-append : (xs : List ℕ) (w : Option ℕ) (ws : List ℕ) → xs ++ with_word w ws ≡ (xs ++ with_word w []) ++ ws
+with_word-append xs None ws = let none = append-none xs in ap (λ t. t ++ ws) (sym none)
+with_word-append xs (Some w) ws = sym (append_assoc xs (w ∷ []) ws)
 
-also-before : (xs : List ℕ) (w : Option ℕ) (r : Result (List ℕ) AsmFault) → before xs (r >>= λ ws. Ok (also w ws)) ≡ before (xs ++ also w []) r
-also-before xs w (Ok ws) = ap (λ t. Ok t) (also-append xs w ws)
-also-before xs w (Err e) = refl
+with_word-before : (xs : List ℕ) (w : Option ℕ) (r : Result (List ℕ) AsmFault) → before xs (r >>= λ ws. Ok (with_word w ws)) ≡ before (xs ++ with_word w []) r
+with_word-before xs w (Ok ws) = ap (λ t. Ok t) (with_word-append xs w ws)
+with_word-before xs w (Err e) = refl
 
-pub word-goes : (n : ℕ) (names : Names) (here : ℕ) (l : List ℕ) (ls : List (List ℕ)) (xs : List ℕ) (w : Option ℕ) → word_of_line names here l ≡ Ok w → before xs (second_pass n names here (l ∷ ls)) ≡ before (xs ++ also w []) (second_pass (n + 1) names (place_after here w) ls)
-word-goes n names here l ls xs w e = rw e (also-before xs w (second_pass (n + 1) names (place_after here w) ls))
+pub word-goes : (n : ℕ) (names : Names) (here : ℕ) (l : List ℕ) (ls : List (List ℕ)) (xs : List ℕ) (w : Option ℕ) → word_of_line names here l ≡ Ok w → before xs (second_pass n names here (l ∷ ls)) ≡ before (xs ++ with_word w []) (second_pass (n + 1) names (place_after here w) ls)
+word-goes n names here l ls xs w e = rw e (with_word-before xs w (second_pass (n + 1) names (place_after here w) ls))
 
 pub word-fails : (n : ℕ) (names : Names) (here : ℕ) (l : List ℕ) (ls : List (List ℕ)) (xs : List ℕ) (k : FaultKind) → word_of_line names here l ≡ Err k → before xs (second_pass n names here (l ∷ ls)) ≡ Err (fault n k)
 word-fails n names here l ls xs k e = rw e refl
@@ -94,7 +94,7 @@ pass-fails rest line n p e r all a is so f =
 
 -- ---- a line of the second pass, as the code has it
 pub word-step : (rest line tail : List ℕ) (n : ℕ) (names : Names) (here : ℕ) (xs : List ℕ) (w : Option ℕ) (all : Result (List ℕ) AsmFault) → line ≡ run is_of_line rest → tail ≡ behind is_of_line rest
-    → before xs (second_pass n names here (source_lines rest)) ≡ all → word_of_line names here line ≡ Ok w → before (xs ++ also w []) (second_pass (n + 1) names (place_after here w) (lines_behind tail)) ≡ all
+    → before xs (second_pass n names here (source_lines rest)) ≡ all → word_of_line names here line ≡ Ok w → before (xs ++ with_word w []) (second_pass (n + 1) names (place_after here w) (lines_behind tail)) ≡ all
 word-step rest line tail n names here xs w all a b so e =
     sym (word-goes n names here line (lines_behind tail) xs w e)
     ∙ (ap (λ l. before xs (second_pass n names here (l ∷ lines_behind tail))) a ∙ (ap (λ t. before xs (second_pass n names here (run is_of_line rest ∷ lines_behind t))) b
@@ -109,6 +109,6 @@ word-stops rest line n names here xs k all a so e =
 pub word-ends : (tail : List ℕ) (n : ℕ) (names : Names) (here : ℕ) (xs : List ℕ) (all : Result (List ℕ) AsmFault) → length tail < 1 → before xs (second_pass n names here (lines_behind tail)) ≡ all → all ≡ Ok xs
 word-ends tail n names here xs all l so = sym so ∙ (ap (λ ls. before xs (second_pass n names here ls)) (no-lines tail l) ∙ ap (λ t. Ok t) (append-none xs))
 
-pub word-kept : (tail : List ℕ) (n : ℕ) (names : Names) (here next : ℕ) (xs ws : List ℕ) (w : Option ℕ) (all : Result (List ℕ) AsmFault) → ws ≡ xs ++ also w [] → next ≡ place_after here w → 1 ≤ length tail
-    → before (xs ++ also w []) (second_pass n names (place_after here w) (lines_behind tail)) ≡ all → before ws (second_pass n names next (source_lines (take (length tail - 1) (drop 1 tail)))) ≡ all
+pub word-kept : (tail : List ℕ) (n : ℕ) (names : Names) (here next : ℕ) (xs ws : List ℕ) (w : Option ℕ) (all : Result (List ℕ) AsmFault) → ws ≡ xs ++ with_word w [] → next ≡ place_after here w → 1 ≤ length tail
+    → before (xs ++ with_word w []) (second_pass n names (place_after here w) (lines_behind tail)) ≡ all → before ws (second_pass n names next (source_lines (take (length tail - 1) (drop 1 tail)))) ≡ all
 word-kept tail n names here next xs ws w all a b l so = rw (a, b, sym (left-lines tail l)) so

@@ -59,16 +59,16 @@ first_pass n p (l ∷ ls) = map_fault (fault n) (after_line p l) >>= λ q. first
 
 -- THE SECOND PASS: names that nothing defines, and distances out of range
 
-abbrev pub also : Option ℕ → List ℕ → List ℕ
-also (Some w) ws = w ∷ ws
-also None ws = ws
+abbrev pub with_word : Option ℕ → List ℕ → List ℕ
+with_word (Some w) ws = w ∷ ws
+with_word None ws = ws
 
 abbrev pub word_of_line : Names → ℕ → List ℕ → Result (Option ℕ) FaultKind
 word_of_line names place line = word_in (distances_from names place) (statement_in (code_in line))
 
 abbrev pub second_pass : ℕ → Names → ℕ → List (List ℕ) → Result (List ℕ) AsmFault
 second_pass n names place [] = Ok []
-second_pass n names place (l ∷ ls) = map_fault (fault n) (word_of_line names place l) >>= λ w. second_pass (n + 1) names (place_after place w) ls >>= λ ws. Ok (also w ws)
+second_pass n names place (l ∷ ls) = map_fault (fault n) (word_of_line names place l) >>= λ w. second_pass (n + 1) names (place_after place w) ls >>= λ ws. Ok (with_word w ws)
 
 -- lines count from 1, places from 0
 unfoldable pub assembled : List ℕ → Result (List ℕ) AsmFault

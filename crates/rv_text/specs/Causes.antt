@@ -2,9 +2,9 @@
 -- the fault of its line.
 use Rattle.std.specs.Prelude.{◌≡◌, ◌≤◌, ◌⊎◌, ℕ, Bool, true, false, ◌&&◌, ◌||◌, if◌then◌else◌, List, [], ◌∷◌, ℤ, Option, Some, None, is_some}
 use Rattle.rv_text.specs.Characters.{is_blank, skip, is_empty, begins, is_name}
-use Rattle.rv_text.specs.Numbers.{number_in, register_in}
+use Rattle.rv_text.specs.Numbers.{number_of_text, register_of_text}
 use Rattle.rv_text.specs.Fields.{is_in, is_register, is_target}
-use Rattle.rv_text.specs.Faults.{number_of}
+use Rattle.rv_text.specs.Faults.{number_of_kind}
 use Rattle.rv_text.specs.Operands.{Distances, slots_of, field_of, after_slot, next_operand, after_operand, has_none}
 use Rattle.rv_text.specs.Rows.{row_named}
 use Rattle.rv_text.specs.Lines.{first_word, after_first_word}
@@ -20,17 +20,17 @@ use Rattle.rv_text.specs.declared.fault.FaultKind.TheVariants.{OtherForm, Unknow
 
 -- whether a text may stand as an operand: a name as a register, a name or a number as a target, and else a number
 abbrev pub may_stand : Field → List ℕ → Bool
-may_stand f operand = if is_register f then is_name operand else ((is_target f && is_name operand) || is_some (number_in operand))
+may_stand f operand = if is_register f then is_name operand else ((is_target f && is_name operand) || is_some (number_of_text operand))
 
 -- the number that an operand which is no register stands for: a name in a target's place for its distance
 abbrev pub stands_for : Distances → Field → List ℕ → Option ℤ
-stands_for distances f operand = if is_target f && is_name operand then distances operand else number_in operand
+stands_for distances f operand = if is_target f && is_name operand then distances operand else number_of_text operand
 
 -- a name in a register's place that is none of `x0` to `x31`
 pub record IsUnknownRegister (f : Field) (operand : List ℕ) : Type 0 where
   pub of_register : is_register f ≡ true
   pub is_a_name : is_name operand ≡ true
-  pub is_unknown : register_in operand ≡ None
+  pub is_unknown : register_of_text operand ≡ None
 
 -- a number, or a name's distance, out of the range of its operand
 pub record IsOutside (distances : Distances) (f : Field) (operand : List ℕ) : Type 0 where
@@ -93,4 +93,4 @@ HasFault distances text DefinedTwice = ⊥
 -- of the faults that there are, the one with the least number
 pub record IsLeast (has_fault : FaultKind → Type 0) (k : FaultKind) : Type 0 where
   pub is_there : has_fault k
-  pub is_least : (j : FaultKind) → has_fault j → number_of k ≤ number_of j
+  pub is_least : (j : FaultKind) → has_fault j → number_of_kind k ≤ number_of_kind j

@@ -6,17 +6,17 @@ use Rattle.rv_text.specs.declared.fault.FaultKind.TheVariants.{OtherForm, Unknow
 use Rattle.rv_text.specs.declared.fault.AsmFault.{AsmFault}
 
 -- the number of a kind
-abbrev pub number_of : FaultKind → ℕ
-number_of OtherForm = 1
-number_of UnknownMnemonic = 2
-number_of NoRegister = 3
-number_of OutOfRange = 4
-number_of Undefined = 5
-number_of DefinedTwice = 6
+abbrev pub number_of_kind : FaultKind → ℕ
+number_of_kind OtherForm = 1
+number_of_kind UnknownMnemonic = 2
+number_of_kind NoRegister = 3
+number_of_kind OutOfRange = 4
+number_of_kind Undefined = 5
+number_of_kind DefinedTwice = 6
 
 -- of two faults the one that counts
 abbrev pub earlier : FaultKind → FaultKind → FaultKind
-earlier j k = if nat_lt (number_of k) (number_of j) then k else j
+earlier j k = if nat_lt (number_of_kind k) (number_of_kind j) then k else j
 
 -- a fault in a line
 abbrev pub fault : ℕ → FaultKind → AsmFault

@@ -68,13 +68,13 @@ pub record AreWordsOf (names : Names) (lines : List (List ℕ)) (words : List �
   pub each : (i : ℕ) → i < length lines → has_statement (line_at lines i) ≡ true → StandsForWord (distances_at names lines i) (statement_at lines i) (slice_index words (words_before lines i))
 
 -- names stand for the places of the labels of lines
-abbrev pub ArePlaces : Names → List (List ℕ) → Type 0
-ArePlaces names lines = (name : List ℕ) (place : ℕ) → (names name ≡ Some place) ↔ IsPlace lines name place
+abbrev pub AreNamesOf : Names → List (List ℕ) → Type 0
+AreNamesOf names lines = (name : List ℕ) (place : ℕ) → (names name ≡ Some place) ↔ IsPlace lines name place
 
 -- the words of a text: no line has a fault, and each word is that of a statement
 pub record IsAssembled (lines : List (List ℕ)) (words : List ℕ) : Type 0 where
   pub names : Names
-  pub are_places : ArePlaces names lines
+  pub are_places : AreNamesOf names lines
   pub are_words : AreWordsOf names lines words
   pub faultless : AreFaultless (HasLineFault lines) lines
   pub faultless_later : AreFaultless (HasLaterFault names lines) lines
@@ -82,4 +82,4 @@ pub record IsAssembled (lines : List (List ℕ)) (words : List ℕ) : Type 0 whe
 -- the fault of a text: the first one that a line has before places are known, or, if none has one, the first one later
 pub data IsFaultOf (lines : List (List ℕ)) (f : AsmFault) : Type 0 where
   at_first : IsFirstFault (HasLineFault lines) lines f → IsFaultOf lines f
-  later : (names : Names) → ArePlaces names lines → AreFaultless (HasLineFault lines) lines → IsFirstFault (HasLaterFault names lines) lines f → IsFaultOf lines f
+  later : (names : Names) → AreNamesOf names lines → AreFaultless (HasLineFault lines) lines → IsFirstFault (HasLaterFault names lines) lines f → IsFaultOf lines f

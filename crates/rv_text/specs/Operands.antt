@@ -1,8 +1,8 @@
--- To believe: the operands of a form, how they are read, and how they are written.
+-- To believe: the operands of a form, how they are read, and how they are ranged_if_read.
 use Rattle.std.specs.Prelude.{ℕ, zero, suc, ◌+◌, ◌/◌, ◌%◌, ◌==◌, ◌&&◌, ◌||◌, Bool, true, false, if◌then◌else◌, List, [], ◌∷◌, ◌++◌, ℤ, unsigned_abs, Option, Some, None, option_map, Result, Ok, Err, nat_lt, decimal}
 use Rattle.std.specs.Fmt.{signed_decimal}
 use Rattle.rv_text.specs.Characters.{is_blank, is_of_operand, run, behind, skip, is_empty, begins, is_name}
-use Rattle.rv_text.specs.Numbers.{number_in, register_in}
+use Rattle.rv_text.specs.Numbers.{number_of_text, register_of_text}
 use Rattle.rv_text.specs.Fields.{is_in, is_register, is_target}
 use Rattle.rv_text.specs.Faults.{earlier}
 use Rattle.rv_text.specs.declared.field.Field.{Field}
@@ -48,13 +48,13 @@ Distances = List ℕ → Option ℤ
 abbrev pub ranged : Field → ℤ → Result ℤ FaultKind
 ranged f z = if is_in f z then Ok z else Err OutOfRange
 
-abbrev pub written : Field → Option ℤ → Result ℤ FaultKind
-written f (Some z) = ranged f z
-written f None = Err OtherForm
+abbrev pub ranged_if_read : Field → Option ℤ → Result ℤ FaultKind
+ranged_if_read f (Some z) = ranged f z
+ranged_if_read f None = Err OtherForm
 
-abbrev pub distant : Field → Option ℤ → Result ℤ FaultKind
-distant f (Some z) = ranged f z
-distant f None = Err Undefined
+abbrev pub ranged_if_defined : Field → Option ℤ → Result ℤ FaultKind
+ranged_if_defined f (Some z) = ranged f z
+ranged_if_defined f None = Err Undefined
 
 abbrev pub registered : Option ℤ → Result ℤ FaultKind
 registered (Some z) = Ok z
@@ -62,14 +62,14 @@ registered None = Err NoRegister
 
 -- any name may be in a register's place, and is a fault of its own if it is no register
 abbrev pub registered_in : List ℕ → Result ℤ FaultKind
-registered_in text = if is_name text then registered (register_in text) else Err OtherForm
+registered_in text = if is_name text then registered (register_of_text text) else Err OtherForm
 
 -- the value of an operand
 abbrev pub operand_in : Distances → Field → List ℕ → Result ℤ FaultKind
 operand_in distances f text =
     if is_register f then registered_in text
-    else if is_target f && is_name text then distant f (distances text)
-    else written f (number_in text)
+    else if is_target f && is_name text then ranged_if_defined f (distances text)
+    else ranged_if_read f (number_of_text text)
 
 -- a value and those behind it, or the fault that counts
 abbrev pub both : Result ℤ FaultKind → Result (List ℤ) FaultKind → Result (List ℤ) FaultKind

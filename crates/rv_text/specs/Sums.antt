@@ -18,8 +18,8 @@ sum_of slots (Ok zs) = Ok (placed_in slots zs)
 sum_of slots (Err k) = Err k
 
 -- two such sums
-abbrev pub plus : Result ℕ FaultKind → Result ℕ FaultKind → Result ℕ FaultKind
-plus (Ok m) (Ok n) = Ok (m + n)
-plus (Ok m) (Err k) = Err k
-plus (Err j) (Ok n) = Err j
-plus (Err j) (Err k) = Err (earlier j k)
+abbrev pub sum_of_two : Result ℕ FaultKind → Result ℕ FaultKind → Result ℕ FaultKind
+sum_of_two (Ok m) (Ok n) = Ok (m + n)
+sum_of_two (Ok m) (Err k) = Err k
+sum_of_two (Err j) (Ok n) = Err j
+sum_of_two (Err j) (Err k) = Err (earlier j k)

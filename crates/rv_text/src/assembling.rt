@@ -2,7 +2,7 @@
 ghost use Rattle.std.specs.Prelude.{◌≡◌, ◌≤◌, ◌<◌, ◌+◌, ◌++◌, [], length, option_map, IfOk, OnOk};
 ghost use Rattle.rd_base.specs.Results.{Gives, map_fault};
 ghost use Rattle.rv_text.specs.Characters.{source_lines};
-ghost use Rattle.rv_text.specs.Assembly.{pass, no_names, also, word_of_line, first_pass as the_first_pass, second_pass as the_second_pass, assembled, with_label, after_line, place_after as the_place_after};
+ghost use Rattle.rv_text.specs.Assembly.{pass, no_names, with_word, word_of_line, first_pass as the_first_pass, second_pass as the_second_pass, assembled, with_label, after_line, place_after as the_place_after};
 ghost use Rattle.rv_text.specs.Places.{places_of, error_in, names_of};
 
 use crate::class::{Class, split_run};
@@ -119,7 +119,7 @@ fn line_word(line: &[u8], names: &Places<'_>, here: u32) -> Result<Option<u32>, 
 
 /// Appends a line's word.
 fn add_word(words: &mut Vec<u32>, word: Option<u32>) -> Result<(), AllocError>
-    ensures { OnOk result (words.new.items ≡ words.old.items ++ also word []) }
+    ensures { OnOk result (words.new.items ≡ words.old.items ++ with_word word []) }
 {
     match word {
         Some(word) => {

@@ -1,6 +1,6 @@
 //! The faults of an assembly text.
 ghost use Rattle.std.specs.Prelude.{◌≡◌};
-ghost use Rattle.rv_text.specs.Faults.{number_of};
+ghost use Rattle.rv_text.specs.Faults.{number_of_kind};
 ghost use Rattle.rv_text.specs.declared.fault.AsmError.TheVariants as error;
 
 use std::alloc::{AllocError, AllocFailed};
@@ -25,7 +25,7 @@ pub enum FaultKind {
 impl FaultKind {
     /// The number of the kind, from 1 to 6 in the order of the variants.
     pub fn number(self) -> u32
-        ensures { result ≡ number_of self }
+        ensures { result ≡ number_of_kind self }
     {
         match self {
             FaultKind::OtherForm => 1,

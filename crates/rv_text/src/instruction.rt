@@ -1,7 +1,7 @@
 //! The line of an instruction.
 ghost use Rattle.std.specs.Prelude.{◌≡◌, ◌++◌, ◌/◌, ◌^◌, false, string_bytes, OnOk};
 ghost use Rattle.rv_decode.specs.Bits.{twos_complement};
-ghost use Rattle.rv_text.specs.Spelling.{registers, immediate, shifted, based, stored, branch, jump, upper, is_fence, spelling_of};
+ghost use Rattle.rv_text.specs.Spelling.{spelled_registers, spelled_immediate, spelled_shifted, spelled_based, spelled_stored, spelled_branch, spelled_jump, spelled_upper, is_fence, spelling_of};
 ghost use Rattle.rv_text.specs.Listing.{spelling_text};
 
 use rv_decode::{BType, IType, Instr, JType, RType, SType, ShiftType, UType};
@@ -10,49 +10,49 @@ use std::fmt::Write;
 
 /// Adds a mnemonic with `rd, rs1, rs2`.
 fn add_registers(text: &mut String, name: &str, t: RType) -> Result<(), AllocError>
-    ensures { OnOk result (string_bytes text.new ≡ string_bytes text.old ++ spelling_text (registers name.now t)) }
+    ensures { OnOk result (string_bytes text.new ≡ string_bytes text.old ++ spelling_text (spelled_registers name.now t)) }
 {
     write!(text, "{name} x{}, x{}, x{}", t.rd, t.rs1, t.rs2)
 }
 
 /// Adds a mnemonic with `rd, rs1, imm`.
 fn add_immediate(text: &mut String, name: &str, t: IType) -> Result<(), AllocError>
-    ensures { OnOk result (string_bytes text.new ≡ string_bytes text.old ++ spelling_text (immediate name.now t)) }
+    ensures { OnOk result (string_bytes text.new ≡ string_bytes text.old ++ spelling_text (spelled_immediate name.now t)) }
 {
     write!(text, "{name} x{}, x{}, {}", t.rd, t.rs1, t.imm)
 }
 
 /// Adds a mnemonic with `rd, rs1, shamt`.
 fn add_shifted(text: &mut String, name: &str, t: ShiftType) -> Result<(), AllocError>
-    ensures { OnOk result (string_bytes text.new ≡ string_bytes text.old ++ spelling_text (shifted name.now t)) }
+    ensures { OnOk result (string_bytes text.new ≡ string_bytes text.old ++ spelling_text (spelled_shifted name.now t)) }
 {
     write!(text, "{name} x{}, x{}, {}", t.rd, t.rs1, t.imm)
 }
 
 /// Adds a mnemonic with `rd, imm(rs1)`.
 fn add_based(text: &mut String, name: &str, t: IType) -> Result<(), AllocError>
-    ensures { OnOk result (string_bytes text.new ≡ string_bytes text.old ++ spelling_text (based name.now t)) }
+    ensures { OnOk result (string_bytes text.new ≡ string_bytes text.old ++ spelling_text (spelled_based name.now t)) }
 {
     write!(text, "{name} x{}, {}(x{})", t.rd, t.imm, t.rs1)
 }
 
 /// Adds a mnemonic with `rs2, imm(rs1)`.
 fn add_stored(text: &mut String, name: &str, t: SType) -> Result<(), AllocError>
-    ensures { OnOk result (string_bytes text.new ≡ string_bytes text.old ++ spelling_text (stored name.now t)) }
+    ensures { OnOk result (string_bytes text.new ≡ string_bytes text.old ++ spelling_text (spelled_stored name.now t)) }
 {
     write!(text, "{name} x{}, {}(x{})", t.rs2, t.imm, t.rs1)
 }
 
 /// Adds a mnemonic with `rs1, rs2, target`.
 fn add_branch(text: &mut String, name: &str, t: BType) -> Result<(), AllocError>
-    ensures { OnOk result (string_bytes text.new ≡ string_bytes text.old ++ spelling_text (branch name.now t)) }
+    ensures { OnOk result (string_bytes text.new ≡ string_bytes text.old ++ spelling_text (spelled_branch name.now t)) }
 {
     write!(text, "{name} x{}, x{}, {}", t.rs1, t.rs2, t.imm)
 }
 
 /// Adds a mnemonic with `rd, target`.
 fn add_jump(text: &mut String, name: &str, t: JType) -> Result<(), AllocError>
-    ensures { OnOk result (string_bytes text.new ≡ string_bytes text.old ++ spelling_text (jump name.now t)) }
+    ensures { OnOk result (string_bytes text.new ≡ string_bytes text.old ++ spelling_text (spelled_jump name.now t)) }
 {
     write!(text, "{name} x{}, {}", t.rd, t.imm)
 }
@@ -70,7 +70,7 @@ fn upper_of(imm: i32) -> u32
 
 /// Adds a mnemonic with `rd, imm`.
 fn add_upper(text: &mut String, name: &str, t: UType) -> Result<(), AllocError>
-    ensures { OnOk result (string_bytes text.new ≡ string_bytes text.old ++ spelling_text (upper name.now t)) }
+    ensures { OnOk result (string_bytes text.new ≡ string_bytes text.old ++ spelling_text (spelled_upper name.now t)) }
 {
     let upper = upper_of(t.imm);
     write!(text, "{name} x{}, {upper}", t.rd)

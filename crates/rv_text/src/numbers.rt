@@ -3,7 +3,7 @@ ghost use Rattle.std.specs.Prelude.{◌≡◌, ◌≤◌, option_map, pos, neg_�
 ghost use Rattle.rv_text.specs.Fields.{within};
 ghost use Rattle.std.specs.Char.{digit_value as the_digit_value};
 ghost use Rattle.std.specs.Str.Parse.{digits_value};
-ghost use Rattle.rv_text.specs.Numbers.{natural_in, hex_in, number_in, register_in as the_register_in};
+ghost use Rattle.rv_text.specs.Numbers.{natural_of_text, hex_of_text, number_of_text, register_of_text as the_register_in};
 ghost use Rattle.rv_text.specs.Capped.{capped as the_capped, capped_integer};
 
 use crate::class::{Class, is_every};
@@ -60,7 +60,7 @@ fn hex_value(digits: &[u8]) -> u64
 
 /// The natural number that a text is in decimal, capped, and `None` if it is another text or has leading zeros.
 fn natural(text: &[u8]) -> Option<u64>
-    ensures { result ≡ option_map the_capped (natural_in text.now) }
+    ensures { result ≡ option_map the_capped (natural_of_text text.now) }
 {
     let is_form = match text {
         [] => false,
@@ -92,7 +92,7 @@ fn negated(n: u64) -> i64
 
 /// The number that a text is in decimal, capped.
 fn positive(text: &[u8]) -> Option<i64>
-    ensures { result ≡ option_map capped_integer (option_map pos (natural_in text.now)) }
+    ensures { result ≡ option_map capped_integer (option_map pos (natural_of_text text.now)) }
 {
     match natural(text) {
         Some(n) => Some(signed(n)),
@@ -103,7 +103,7 @@ fn positive(text: &[u8]) -> Option<i64>
 /// The number that a text is in decimal behind a `-`, capped.
 #[tactic(auto, using(crate::proofs::digits::CappedLemmas::sign_rules))]
 fn negative(digits: &[u8]) -> Option<i64>
-    ensures { result ≡ option_map capped_integer (option_map (λ n. neg_ℤ (pos n)) (natural_in digits.now)) }
+    ensures { result ≡ option_map capped_integer (option_map (λ n. neg_ℤ (pos n)) (natural_of_text digits.now)) }
 {
     match natural(digits) {
         Some(n) => Some(negated(n)),
@@ -113,7 +113,7 @@ fn negative(digits: &[u8]) -> Option<i64>
 
 /// The number that hexadecimal digits are, capped.
 fn hexadecimal(digits: &[u8]) -> Option<i64>
-    ensures { result ≡ option_map capped_integer (option_map pos (hex_in digits.now)) }
+    ensures { result ≡ option_map capped_integer (option_map pos (hex_of_text digits.now)) }
 {
     if !digits.is_empty() && is_every(digits, Class::Hexadecimal) {
         Some(signed(hex_value(digits)))
@@ -124,7 +124,7 @@ fn hexadecimal(digits: &[u8]) -> Option<i64>
 
 /// The number that a text is, capped on both sides: decimal with an optional `-`, or `0x` and hexadecimal digits.
 pub fn number(text: &[u8]) -> Option<i64>
-    ensures { result ≡ option_map capped_integer (number_in text.now) }
+    ensures { result ≡ option_map capped_integer (number_of_text text.now) }
 {
     match text {
         [b'-', digits @ ..] => negative(digits),

@@ -1,12 +1,12 @@
 //! The operands of a line.
 ghost use Rattle.std.specs.Prelude.{◌≡◌, ◌<◌, ◌≤◌, ◌^◌, ◌+◌, true, IfOk, option_map};
 ghost use Rattle.rv_text.specs.Fields.{most_at, is_in as the_is_in, is_register as the_is_register};
-ghost use Rattle.rv_text.specs.Numbers.{number_in};
+ghost use Rattle.rv_text.specs.Numbers.{number_of_text};
 ghost use Rattle.rv_text.specs.Faults.{earlier as the_earlier};
-ghost use Rattle.rv_text.specs.Operands.{ranged as the_ranged, registered_in, distant, written as the_written, operand_in, operands_in, after_operand, next_operand, after_mark as the_after_mark, after_slot as the_after_slot};
+ghost use Rattle.rv_text.specs.Operands.{ranged as the_ranged, registered_in, ranged_if_defined, ranged_if_read as the_written, operand_in, operands_in, after_operand, next_operand, after_mark as the_after_mark, after_slot as the_after_slot};
 ghost use Rattle.rv_text.specs.Rows.{most_in};
 ghost use Rattle.rv_text.specs.Places.{distances_in};
-ghost use Rattle.rv_text.specs.Sums.{bits_of, sum_of, plus as the_plus};
+ghost use Rattle.rv_text.specs.Sums.{bits_of, sum_of, sum_of_two as the_plus};
 
 use crate::class::{Class, is_name, skip, split_run};
 use crate::fault::FaultKind;
@@ -45,7 +45,7 @@ fn register_operand(field: Field, text: &[u8]) -> Result<i64, FaultKind>
 
 /// The value of a name that stands for a distance.
 fn target_operand(field: Field, name: &[u8], scope: &Scope<'_, '_>) -> Result<i64, FaultKind>
-    ensures value { result ≡ distant field (distances_in scope.now name.now) }
+    ensures value { result ≡ ranged_if_defined field (distances_in scope.now name.now) }
     ensures in_range { IfOk result (λ z. the_is_in field z ≡ true) }
 {
     match distance(scope, name) {
@@ -68,7 +68,7 @@ fn written(field: Field, number: Option<i64>) -> Result<i64, FaultKind>
 /// The value of a number's operand.
 #[tactic(auto, using(crate::proofs::digits::CappedLemmas::ranged_rules))]
 fn number_operand(field: Field, text: &[u8]) -> Result<i64, FaultKind>
-    ensures value { result ≡ the_written field (number_in text.now) }
+    ensures value { result ≡ the_written field (number_of_text text.now) }
     ensures in_range { IfOk result (λ z. the_is_in field z ≡ true) }
 {
     written(field, number(text))

@@ -18,13 +18,13 @@ pub record IsBehind (digest : List ℕ → List ℕ) (tree : Tree) (old new : Co
   pub same : SameBut tree.touched old new
 
 -- no page is touched, and the tree is the memory's
-pub record IsFresh (digest : List ℕ → List ℕ) (tree : Tree) (m : Contents) : Type 0 where
+pub record IsFreshTree (digest : List ℕ → List ℕ) (tree : Tree) (m : Contents) : Type 0 where
   pub untouched : tree.touched ≡ []
   pub tree_of : IsTreeOf digest tree m
 
 -- what a worker keeps is of the run: the digests of registers in the run's version, and a cursor, if it has one, whose machine is that of
 -- its step and whose tree is the machine's memory's
-pub record IsKept {D : Type 0} (digest : List ℕ → List ℕ) (r : Recorded) (w : Worker D) : Type 0 where
+pub record IsWorkerOf {D : Type 0} (digest : List ℕ → List ℕ) (r : Recorded) (w : Worker D) : Type 0 where
   pub registers : w.registers ≡ r.first.version
   pub machine : IfSome w.cursor (λ c. IsMachineOf digest r c.at c.machine)
-  pub tree : IfSome w.cursor (λ c. IsFresh digest c.tree c.machine.mem)
+  pub tree : IfSome w.cursor (λ c. IsFreshTree digest c.tree c.machine.mem)

@@ -9,12 +9,12 @@ use Rattle.mem_tree.specs.InputTree.{input_root}
 use Rattle.checkpoint_run.specs.Recorded.{Recorded, state_of_step}
 
 -- the root of a state, in the version of the commitment that the state has
-abbrev pub own_root : (List ℕ → List ℕ) → State → List ℕ
-own_root digest s = root_in digest s.version s
+abbrev pub root_of_state : (List ℕ → List ℕ) → State → List ℕ
+root_of_state digest s = root_in digest s.version s
 
 -- the root of a run's state of a step; above the bound the last state stands for it
 abbrev pub root_at : (List ℕ → List ℕ) → Recorded → ℕ → List ℕ
-root_at digest r i = own_root digest (state_of_step r (min i r.bound))
+root_at digest r i = root_of_state digest (state_of_step r (min i r.bound))
 
 -- these are the bytes of the root of a run's input, if the run's version has one
 abbrev pub IsInputRoot : (List ℕ → List ℕ) → Recorded → List ℕ → Type 0

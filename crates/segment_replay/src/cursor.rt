@@ -3,12 +3,12 @@ ghost use Rattle.std.proofs.Props.{props};
 ghost use Rattle.std.specs.Prelude.{◌≡◌, replicate, ℕ, ◌+◌, ◌<◌, ◌≤◌, ◌∷◌, [], true, false, IfOk, OnOk, IfSome, min};
 ghost use Rattle.rd_base.specs.Scheme.{scheme_of};
 ghost use Rattle.rd_base.specs.declared.scheme.InputScheme.TheVariants as InputScheme;
-ghost use Rattle.mem_plain.specs.Contents.{Contents};
-ghost use Rattle.mem_tree.specs.Tree.{HasTouched, IsTreeOf, is_among};
+ghost use Rattle.mem_plain.specs.Contents.{Contents, has_page};
+ghost use Rattle.mem_tree.specs.Tree.{HasTouched, IsTreeOf};
 ghost use Rattle.checkpoint_run.specs.NamedPages.{IsNamed, ArePages};
 ghost use Rattle.checkpoint_run.specs.Recorded.{AreChained, state_of_step, still_of};
 ghost use Rattle.segment_replay.specs.Roots.{IsInputRoot, root_at};
-ghost use Rattle.segment_replay.specs.Cursor.{IsMachineOf, IsBehind, IsFresh};
+ghost use Rattle.segment_replay.specs.Cursor.{IsMachineOf, IsBehind, IsFreshTree};
 
 use checkpoint_run::{
     Run, advance, machine_at, pages_of_two_places, tampered_runs, tampered_runs_keep_the_input,
@@ -89,8 +89,8 @@ pub fn machine_of_step<D: Digester>(d: D, run: &Run, step: u64) -> Result<Machin
 fn touch_named<D: Digester>(tree: &mut MemTree<D>, page: Option<u32>) -> Result<(), Memory>
     requires { ArePages (page ∷ []) }
     ensures tree { OnOk result ((m : Contents) → IsTreeOf D.digest_of tree.old m → IsTreeOf D.digest_of tree.new m) }
-    ensures named { OnOk result ((p : ℕ) → is_among tree.new.touched p ≡ false → IsNamed p (page ∷ []) → ⊥) }
-    ensures others { OnOk result ((p : ℕ) → is_among tree.new.touched p ≡ false → is_among tree.old.touched p ≡ false) }
+    ensures named { OnOk result ((p : ℕ) → has_page tree.new.touched p ≡ false → IsNamed p (page ∷ []) → ⊥) }
+    ensures others { OnOk result ((p : ℕ) → has_page tree.new.touched p ≡ false → has_page tree.old.touched p ≡ false) }
 {
     match page {
         Some(page) => {
@@ -137,10 +137,10 @@ fn step_to<D: Digester>(
     requires later { cursor.at ≤ goal }
     requires goal { goal ≤ still_of replay.now.run.now }
     requires machine { IsMachineOf D.digest_of replay.now.run.now cursor.at cursor.machine }
-    requires tree { IsFresh D.digest_of cursor.tree cursor.machine.mem }
+    requires tree { IsFreshTree D.digest_of cursor.tree cursor.machine.mem }
     ensures at { IfOk result (λ c. c.at ≡ goal) }
     ensures machine { IfOk result (λ c. IsMachineOf D.digest_of replay.now.run.now goal c.machine) }
-    ensures tree { IfOk result (λ c. IsFresh D.digest_of c.tree c.machine.mem) }
+    ensures tree { IfOk result (λ c. IsFreshTree D.digest_of c.tree c.machine.mem) }
 {
     let mut moved = cursor;
     'steps: while moved.at < goal {
@@ -193,10 +193,10 @@ fn restore_to<D: Digester>(
     goal: u64,
 ) -> Result<Cursor<D>, Memory>
     requires goal { goal ≤ still_of replay.now.run.now }
-    requires tree { IsFresh D.digest_of cursor.tree cursor.machine.mem }
+    requires tree { IsFreshTree D.digest_of cursor.tree cursor.machine.mem }
     ensures at { IfOk result (λ c. c.at ≡ goal) }
     ensures machine { IfOk result (λ c. IsMachineOf D.digest_of replay.now.run.now goal c.machine) }
-    ensures tree { IfOk result (λ c. IsFresh D.digest_of c.tree c.machine.mem) }
+    ensures tree { IfOk result (λ c. IsFreshTree D.digest_of c.tree c.machine.mem) }
 {
     unused_pages_are_alike();
     let kept = release_tree(cursor)?;
@@ -222,10 +222,10 @@ fn cursor_at<D: Digester + Send + Sync, R: Threads + Sync>(
 ) -> Result<Cursor<D>, Memory>
     requires goal { goal ≤ still_of replay.now.run.now }
     requires machine { IfSome kept (λ c. IsMachineOf D.digest_of replay.now.run.now c.at c.machine) }
-    requires tree { IfSome kept (λ c. IsFresh D.digest_of c.tree c.machine.mem) }
+    requires tree { IfSome kept (λ c. IsFreshTree D.digest_of c.tree c.machine.mem) }
     ensures at { IfOk result (λ c. c.at ≡ goal) }
     ensures machine { IfOk result (λ c. IsMachineOf D.digest_of replay.now.run.now goal c.machine) }
-    ensures tree { IfOk result (λ c. IsFresh D.digest_of c.tree c.machine.mem) }
+    ensures tree { IfOk result (λ c. IsFreshTree D.digest_of c.tree c.machine.mem) }
 {
     let every = u64::from(replay.run.every());
     if let Some(cursor) = kept {
@@ -274,9 +274,9 @@ pub fn cursor_of_step<D: Digester + Send + Sync, R: Threads + Sync>(
     step: u64,
 ) -> Result<Cursor<D>, Memory>
     requires machine { IfSome kept (λ c. IsMachineOf D.digest_of replay.now.run.now c.at c.machine) }
-    requires tree { IfSome kept (λ c. IsFresh D.digest_of c.tree c.machine.mem) }
+    requires tree { IfSome kept (λ c. IsFreshTree D.digest_of c.tree c.machine.mem) }
     ensures machine { IfOk result (λ c. IsMachineOf D.digest_of replay.now.run.now c.at c.machine) }
-    ensures tree { IfOk result (λ c. IsFresh D.digest_of c.tree c.machine.mem) }
+    ensures tree { IfOk result (λ c. IsFreshTree D.digest_of c.tree c.machine.mem) }
     ensures step { IfOk result (λ c. state_of_step replay.now.run.now c.at ≡ state_of_step replay.now.run.now (min step replay.now.run.now.bound)) }
 {
     let goal = goal_of(replay.run, step);
@@ -295,10 +295,10 @@ pub fn root_of_step<D: Digester + Send + Sync, R: Threads + Sync>(
 ) -> Result<Rooted<D>, Memory>
     requires registers { registers.old ≡ replay.now.run.now.first.version }
     requires machine { IfSome kept (λ c. IsMachineOf D.digest_of replay.now.run.now c.at c.machine) }
-    requires tree { IfSome kept (λ c. IsFresh D.digest_of c.tree c.machine.mem) }
+    requires tree { IfSome kept (λ c. IsFreshTree D.digest_of c.tree c.machine.mem) }
     ensures registers { registers.new ≡ registers.old }
     ensures machine { IfOk result (λ r. IsMachineOf D.digest_of replay.now.run.now r.cursor.at r.cursor.machine) }
-    ensures tree { IfOk result (λ r. IsFresh D.digest_of r.cursor.tree r.cursor.machine.mem) }
+    ensures tree { IfOk result (λ r. IsFreshTree D.digest_of r.cursor.tree r.cursor.machine.mem) }
     ensures root { IfOk result (λ r. r.root.0 ≡ root_at D.digest_of replay.now.run.now step) }
 {
     tampered_runs_keep_the_input();

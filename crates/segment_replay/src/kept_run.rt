@@ -4,7 +4,7 @@ ghost use Rattle.std.specs.Prelude.{◌≡◌, ◌<◌, All, IfOk, map, min};
 ghost use Rattle.state_commit.specs.Committing.{HasInput};
 ghost use Rattle.checkpoint_run.specs.Recorded.{AreChained, state_of_step};
 ghost use Rattle.segment_replay.specs.Roots.{root_at, digests};
-ghost use Rattle.segment_replay.specs.Cursor.{IsKept};
+ghost use Rattle.segment_replay.specs.Cursor.{IsWorkerOf};
 
 use crate::cursor::{Cursor, Replay, goal_of};
 use crate::replaying::{Worker, keep_cursor, roots_by, take_cursor};
@@ -26,8 +26,8 @@ fn committed_by<D: Digester + Send + Sync, R: Threads + Sync>(
     workers: &mut Vec<Worker<D>>,
 ) -> Result<Committed<D>, Memory>
     requires input { HasInput D.digest_of replay.now.run.now.first input }
-    requires kept { All (λ w. IsKept D.digest_of replay.now.run.now w) workers.old.items }
-    ensures kept { All (λ w. IsKept D.digest_of replay.now.run.now w) workers.new.items }
+    requires kept { All (λ w. IsWorkerOf D.digest_of replay.now.run.now w) workers.old.items }
+    ensures kept { All (λ w. IsWorkerOf D.digest_of replay.now.run.now w) workers.new.items }
     ensures committed { IfOk result (λ c. c ≡ state_of_step replay.now.run.now (min step replay.now.run.now.bound)) }
 {
     tampered_runs_keep_the_input();
@@ -53,7 +53,7 @@ impl<D: Digester> Model for KeptRun<D> {
     ghost use Rattle.std.specs.Prelude.{◌≡◌, All};
     ghost use Rattle.checkpoint_run.specs.Recorded.{Recorded, recorded_code, AreChained};
     ghost use Rattle.state_commit.specs.Committing.{HasInput};
-    ghost use Rattle.segment_replay.specs.Cursor.{IsKept};
+    ghost use Rattle.segment_replay.specs.Cursor.{IsWorkerOf};
 
     ghost Value = { Recorded };
 
@@ -62,7 +62,7 @@ impl<D: Digester> Model for KeptRun<D> {
     ghost view = { λ k. k.run };
 
     ghost invariant = { λ k. AreChained D.digest_of k.run × HasInput D.digest_of k.run.first k.input
-        × All (λ w. IsKept D.digest_of k.run w) k.workers.items };
+        × All (λ w. IsWorkerOf D.digest_of k.run w) k.workers.items };
 }
 
 impl<D: Digester> KeptRun<D> {

@@ -3,7 +3,7 @@ ghost use Rattle.std.specs.Prelude.{◌≡◌, ◌<◌, ◌≤◌, ◌+◌, ◌*
 ghost use Rattle.std.specs.Fork.{slice_chunk};
 ghost use Rattle.checkpoint_run.specs.Recorded.{AreChained, state_of_step};
 ghost use Rattle.segment_replay.specs.Roots.{IsInputRoot, root_at, digests};
-ghost use Rattle.segment_replay.specs.Cursor.{IsMachineOf, IsFresh, IsKept};
+ghost use Rattle.segment_replay.specs.Cursor.{IsMachineOf, IsFreshTree, IsWorkerOf};
 ghost use Rattle.segment_replay.specs.Pieces.{ArePieces};
 
 use crate::cursor::{
@@ -36,8 +36,8 @@ fn replayed<D: Digester + Send + Sync, R: Threads + Sync>(
     steps: &[u64],
     worker: &mut Worker<D>,
 ) -> Result<Vec<Digest32>, Memory>
-    requires kept { IsKept D.digest_of replay.now.run.now worker.old }
-    ensures kept { IsKept D.digest_of replay.now.run.now worker.new }
+    requires kept { IsWorkerOf D.digest_of replay.now.run.now worker.old }
+    ensures kept { IsWorkerOf D.digest_of replay.now.run.now worker.new }
     ensures roots { IfOk result (λ v. digests v.items ≡ map (root_at D.digest_of replay.now.run.now) steps.now) }
 {
     let mut roots = Vec::new(alloc);
@@ -72,8 +72,8 @@ fn replay_piece<D: Digester + Send + Sync, R: Threads + Sync>(
     place: usize,
     worker: &mut Worker<D>,
 )
-    requires kept { IsKept D.digest_of replay.now.run.now worker.old }
-    ensures kept { IsKept D.digest_of replay.now.run.now worker.new }
+    requires kept { IsWorkerOf D.digest_of replay.now.run.now worker.old }
+    ensures kept { IsWorkerOf D.digest_of replay.now.run.now worker.new }
     ensures made { IfOk worker.new.made (λ v. digests v.items ≡ slice_chunk (map (root_at D.digest_of replay.now.run.now) steps.now) size place) }
 {
     let piece = piece_at(steps, size, place);
@@ -98,8 +98,8 @@ fn add_workers<D: Digester>(
     count: usize,
     workers: &mut Vec<Worker<D>>,
 ) -> Result<(), Memory>
-    requires kept { All (λ w. IsKept D.digest_of replay.now.run.now w) workers.old.items }
-    ensures kept { All (λ w. IsKept D.digest_of replay.now.run.now w) workers.new.items }
+    requires kept { All (λ w. IsWorkerOf D.digest_of replay.now.run.now w) workers.old.items }
+    ensures kept { All (λ w. IsWorkerOf D.digest_of replay.now.run.now w) workers.new.items }
     ensures count { OnOk result (count ≤ vec_len workers.new) }
 {
     'workers: while workers.len() < count {
@@ -123,14 +123,14 @@ fn replay_pieces<D: Digester + Send + Sync, R: Threads + Sync>(
     workers: &mut [Worker<D>],
 )
     requires some { 0 < length workers.old }
-    requires kept { All (λ w. IsKept D.digest_of replay.now.run.now w) workers.old }
-    ensures kept { All (λ w. IsKept D.digest_of replay.now.run.now w) workers.new }
+    requires kept { All (λ w. IsWorkerOf D.digest_of replay.now.run.now w) workers.old }
+    ensures kept { All (λ w. IsWorkerOf D.digest_of replay.now.run.now w) workers.new }
     ensures count { length workers.new ≡ length workers.old }
     ensures made { ArePieces (map (root_at D.digest_of replay.now.run.now) steps.now) size (map (λ w. w.made) workers.new) }
 {
     let work = |place: usize, worker: &mut Worker<D>|
-        requires kept { IsKept D.digest_of replay.now.run.now worker.now }
-        ensures kept { IsKept D.digest_of replay.entry.now.run.now worker.exit.now }
+        requires kept { IsWorkerOf D.digest_of replay.now.run.now worker.now }
+        ensures kept { IsWorkerOf D.digest_of replay.entry.now.run.now worker.exit.now }
         ensures made { IfOk worker.exit.now.made (λ v. digests v.items ≡ slice_chunk (map (root_at D.digest_of replay.entry.now.run.now) steps.entry.now) size place) }
     { replay_piece(rt, alloc, replay, steps, size, place, worker) };
     let threads = workers.len();
@@ -175,8 +175,8 @@ pub fn roots_by<D: Digester + Send + Sync, R: Threads + Sync>(
     workers: &mut Vec<Worker<D>>,
 ) -> Result<Vec<Digest32>, Memory>
     requires count { 0 < count }
-    requires kept { All (λ w. IsKept D.digest_of replay.now.run.now w) workers.old.items }
-    ensures kept { All (λ w. IsKept D.digest_of replay.now.run.now w) workers.new.items }
+    requires kept { All (λ w. IsWorkerOf D.digest_of replay.now.run.now w) workers.old.items }
+    ensures kept { All (λ w. IsWorkerOf D.digest_of replay.now.run.now w) workers.new.items }
     ensures roots { IfOk result (λ v. digests v.items ≡ map (root_at D.digest_of replay.now.run.now) steps.now) }
 {
     if steps.is_empty() {
@@ -201,10 +201,10 @@ pub fn take_cursor<D: Digester + Send + Sync, R: Threads + Sync>(
     step: u64,
     workers: &mut Vec<Worker<D>>,
 ) -> Result<Cursor<D>, Memory>
-    requires kept { All (λ w. IsKept D.digest_of replay.now.run.now w) workers.old.items }
-    ensures kept { All (λ w. IsKept D.digest_of replay.now.run.now w) workers.new.items }
+    requires kept { All (λ w. IsWorkerOf D.digest_of replay.now.run.now w) workers.old.items }
+    ensures kept { All (λ w. IsWorkerOf D.digest_of replay.now.run.now w) workers.new.items }
     ensures machine { IfOk result (λ c. IsMachineOf D.digest_of replay.now.run.now c.at c.machine) }
-    ensures tree { IfOk result (λ c. IsFresh D.digest_of c.tree c.machine.mem) }
+    ensures tree { IfOk result (λ c. IsFreshTree D.digest_of c.tree c.machine.mem) }
     ensures step { IfOk result (λ c. state_of_step replay.now.run.now c.at ≡ state_of_step replay.now.run.now (min step replay.now.run.now.bound)) }
 {
     add_workers(replay, 1, workers)?;
@@ -215,9 +215,9 @@ pub fn take_cursor<D: Digester + Send + Sync, R: Threads + Sync>(
 /// Gives the first worker a cursor of the run, if there is one.
 pub fn keep_cursor<D: Digester>(_run: &Run, cursor: Cursor<D>, workers: &mut Vec<Worker<D>>)
     requires machine { IsMachineOf D.digest_of _run.now cursor.at cursor.machine }
-    requires tree { IsFresh D.digest_of cursor.tree cursor.machine.mem }
-    requires kept { All (λ w. IsKept D.digest_of _run.now w) workers.old.items }
-    ensures kept { All (λ w. IsKept D.digest_of _run.now w) workers.new.items }
+    requires tree { IsFreshTree D.digest_of cursor.tree cursor.machine.mem }
+    requires kept { All (λ w. IsWorkerOf D.digest_of _run.now w) workers.old.items }
+    ensures kept { All (λ w. IsWorkerOf D.digest_of _run.now w) workers.new.items }
 {
     if !workers.is_empty() {
         workers[0].cursor = Some(cursor);

@@ -13,7 +13,7 @@ use Rattle.rv_decode.specs.Fields.{fields_of}
 use Rattle.rv_decode.specs.declared.instr.Instr.{Instr}
 use Rattle.rv_decode.specs.declared.instr.Instr.TheVariants.{Lb, Lh, Lw, Lbu, Lhu, Sb, Sh, Sw, Ecall}
 use Rattle.rv_step.specs.Effect.{x}
-use Rattle.rv_step.specs.Named.{first_source, second_source, destination, kept, once, named, named_by}
+use Rattle.rv_step.specs.Named.{first_source, second_source, destination, if_named, once, named, named_by}
 use Rattle.rv_step.specs.NextNeed.{needed_by}
 use Rattle.rv_step.specs.Parts.{byte_called, call_needed, needed_in}
 use Rattle.rv_step.specs.Step.{regs_after}
@@ -114,32 +114,32 @@ step-digests operand (Some e) = effect-digests operand e
 step-digests operand None = omega arith
 
 -- how many registers are named
-kept-length : (t : Bool) (r : ℕ) → length (kept t r) ≤ 1
-kept-length true r = omega arith
-kept-length false r = omega arith
+if_named-length : (t : Bool) (r : ℕ) → length (if_named t r) ≤ 1
+if_named-length true r = omega arith
+if_named-length false r = omega arith
 
 once-length : (a b c : ℕ) → length (once a b c) ≤ 3
 once-length a b c =
-    let first = kept-length (not (eqb a 0)) a in
-    let second = kept-length (not (eqb b 0) && not (eqb b a)) b in
-    let third = kept-length (not (eqb c 0) && not (eqb c a) && not (eqb c b)) c in
-    let inner = length-append (kept (not (eqb b 0) && not (eqb b a)) b) (kept (not (eqb c 0) && not (eqb c a) && not (eqb c b)) c) in
-    let outer = length-append (kept (not (eqb a 0)) a) (kept (not (eqb b 0) && not (eqb b a)) b ++ kept (not (eqb c 0) && not (eqb c a) && not (eqb c b)) c) in
+    let first = if_named-length (not (eqb a 0)) a in
+    let second = if_named-length (not (eqb b 0) && not (eqb b a)) b in
+    let third = if_named-length (not (eqb c 0) && not (eqb c a) && not (eqb c b)) c in
+    let inner = length-append (if_named (not (eqb b 0) && not (eqb b a)) b) (if_named (not (eqb c 0) && not (eqb c a) && not (eqb c b)) c) in
+    let outer = length-append (if_named (not (eqb a 0)) a) (if_named (not (eqb b 0) && not (eqb b a)) b ++ if_named (not (eqb c 0) && not (eqb c a) && not (eqb c b)) c) in
     omega arith
 
 once-second : (a c : ℕ) → length (once a 0 c) ≤ 2
 once-second a c =
-    let first = kept-length (not (eqb a 0)) a in
-    let third = kept-length (not (eqb c 0) && not (eqb c a) && not (eqb c 0)) c in
-    let outer = length-append (kept (not (eqb a 0)) a) (kept (not (eqb c 0) && not (eqb c a) && not (eqb c 0)) c) in
+    let first = if_named-length (not (eqb a 0)) a in
+    let third = if_named-length (not (eqb c 0) && not (eqb c a) && not (eqb c 0)) c in
+    let outer = length-append (if_named (not (eqb a 0)) a) (if_named (not (eqb c 0) && not (eqb c a) && not (eqb c 0)) c) in
     omega arith
 
 once-last : (a b : ℕ) → length (once a b 0) ≤ 2
 once-last a b =
-    let first = kept-length (not (eqb a 0)) a in
-    let second = kept-length (not (eqb b 0) && not (eqb b a)) b in
-    let inner = length-append (kept (not (eqb b 0) && not (eqb b a)) b) [] in
-    let outer = length-append (kept (not (eqb a 0)) a) (kept (not (eqb b 0) && not (eqb b a)) b ++ []) in
+    let first = if_named-length (not (eqb a 0)) a in
+    let second = if_named-length (not (eqb b 0) && not (eqb b a)) b in
+    let inner = length-append (if_named (not (eqb b 0) && not (eqb b a)) b) [] in
+    let outer = length-append (if_named (not (eqb a 0)) a) (if_named (not (eqb b 0) && not (eqb b a)) b ++ []) in
     omega arith
 
 named-few : (o : Option Instr) → length (named_by o) ≤ 3

@@ -28,7 +28,7 @@ use Rattle.open_proof.specs.InRange.{are_digests, is_opening_in_range, is_ctl_in
 use Rattle.open_proof.specs.OpenedChunk.{siblings_of, opening_at, fetch_of_state}
 use Rattle.open_proof.specs.RangeLaws.{words_are, digests_are}
 use Rattle.open_proof.specs.Facts.{facts_of}
-use Rattle.open_proof.specs.PlainProof.{register_siblings, register_opening, input_siblings, input_opening_at, registers_opened, plain_facts, plain_proof}
+use Rattle.open_proof.specs.PlainProof.{register_siblings, opened_register, input_siblings, input_opening_at, registers_opened, plain_facts, plain_proof}
 use Rattle.open_proof.specs.Shown.{tree_by, operand_of_state, input_of_state}
 use Rattle.open_proof.specs.declared.facts.Facts.{Facts}
 
@@ -96,12 +96,12 @@ module _ (digest : List ℕ → List ℕ) (is_digest : (bytes : List ℕ) → le
       let along : ℕ → Digest32 = λ l. record { 0 = register_node digest xs l (beside (r / 2 ^ l)) } in
       (levels along 5, sizes along 5 (λ l. node-size _ l (beside (r / 2 ^ l))))
 
-  each-range : (xs : List ℕ) → ((r : ℕ) → slice_index xs r < 2 ^ 32) → (rs : List ℕ) → are_openings_in_range (map (register_opening digest xs) rs) ≡ true
+  each-range : (xs : List ℕ) → ((r : ℕ) → slice_index xs r < 2 ^ 32) → (rs : List ℕ) → are_openings_in_range (map (opened_register digest xs) rs) ≡ true
   each-range xs words [] = refl
   each-range xs words (r ∷ rs) =
       let path = register-path xs r in
       let value : ltb (slice_index xs r) (2 ^ 32) ≡ true = (Decides-ltb (slice_index xs r) (2 ^ 32)).1 (words r) in
-      and_from (ltb (slice_index xs r) (2 ^ 32) && eqb (length (register_siblings digest xs r)) 5 && are_digests (register_siblings digest xs r)) (are_openings_in_range (map (register_opening digest xs) rs))
+      and_from (ltb (slice_index xs r) (2 ^ 32) && eqb (length (register_siblings digest xs r)) 5 && are_digests (register_siblings digest xs r)) (are_openings_in_range (map (opened_register digest xs) rs))
       (and_from (ltb (slice_index xs r) (2 ^ 32) && eqb (length (register_siblings digest xs r)) 5) (are_digests (register_siblings digest xs r))
       (and_from (ltb (slice_index xs r) (2 ^ 32)) (eqb (length (register_siblings digest xs r)) 5) value (is-true _ 5 path.0)) path.1)
       (each-range xs words rs)

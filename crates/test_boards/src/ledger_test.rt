@@ -1,6 +1,6 @@
 //! Tests of a ledger of stakes.
 ghost use Rattle.std.specs.Prelude.{◌≡◌, ◌<◌, ◌≤◌, true, false, length};
-ghost use Rattle.deposits.specs.Accounts.{is_out};
+ghost use Rattle.deposits.specs.Accounts.{is_told_out};
 
 use bisect_game::Close;
 use deposits::Ledger;
@@ -23,7 +23,7 @@ enum Told {
 fn may_be_told(ledger: &Ledger, p: u32, loses: bool) -> bool
     requires { length ledger.now.of ≡ 3 }
     ensures few { result ≡ true → (0 < p) × (p ≤ 3) }
-    ensures loses { result ≡ true → loses ≡ true → is_out ledger.now p ≡ false }
+    ensures loses { result ≡ true → loses ≡ true → is_told_out ledger.now p ≡ false }
 {
     if p == 0 || p > 3 {
         return false;

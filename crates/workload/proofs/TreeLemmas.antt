@@ -14,8 +14,8 @@ use Rattle.serde_json.specs.View.{items_of}
 use Rattle.serde_json.specs.Written.{has_float, items_have_float}
 use Rattle.rd_base.specs.declared.script.Script.{Script}
 use Rattle.case_reader.specs.declared.fault.CaseFault.{CaseFault}
-use Rattle.case_reader.specs.Fields.{hex_of, listed, text_in, bytes_in, number_of, number_in, optional_number_in, format_in, image_in, input_in, version_in, fan_in, array_in, provers_in}
-use Rattle.case_reader.specs.Scripts.{number_at, register_in, tamper_in, script_in}
+use Rattle.case_reader.specs.Fields.{hex_of, listed, text_field, bytes_field, number_of, number_field, optional_number_field, format_in, image_in, input_in, version_in, fan_in, array_field, provers_in}
+use Rattle.case_reader.specs.Scripts.{number_of_key, register_in, tamper_in, script_in}
 use Rattle.case_reader.specs.Provers.{scripts_in}
 use Rattle.case_reader.specs.Case.{CaseData, case_of, case_at}
 use Rattle.case_reader.specs.declared.case.Format.TheVariants.{Flat}
@@ -119,7 +119,7 @@ values_are_scripts f g top known number a (suc n) within =
 
 one_is_known : (truthful : Bool) (step value : ℕ) → leb step 4294967295 ≡ true → leb value 4294967295 ≡ true
     → script_in (if truthful then object no_members else tampering step value) ≡ Some (if truthful then untampered else tampered_at step value)
-unfolding script_in tamper_in register_in number_at
+unfolding script_in tamper_in register_in number_of_key
 one_is_known true step value step_fits value_fits = refl
 one_is_known false step value step_fits value_fits = rw (leb-zero step, step_fits, leb-zero value, value_fits) refl
 
@@ -138,7 +138,7 @@ members_are_a_case : (image_text input_text image input : List ℕ) (provers : L
     → hex_of image_text ≡ Some image → hex_of input_text ≡ Some input → length input ≡ 4096 → length provers ≡ 8 → scripts_in 1 provers ≡ Ok scripts
     → let c : Result CaseData CaseFault = Ok (record { image = image; format = Flat; input = input; bound = 65536; patience = 0; version = 1; fan = 2; stake = None; provers = scripts }) in
     case_of (object (case_members image_text input_text (items_of provers))) ≡ c
-unfolding case_of text_in bytes_in number_of number_in optional_number_in format_in image_in input_in version_in fan_in array_in provers_in
+unfolding case_of text_field bytes_field number_of number_field optional_number_field format_in image_in input_in version_in fan_in array_field provers_in
 members_are_a_case image_text input_text image input provers scripts image_is input_is input_len provers_are scripts_are =
     rw (image_is, input_is, input_len, listed-items_of provers, provers_are, scripts_are) refl
 

@@ -3,7 +3,7 @@ use Rattle.std.specs.Prelude.{ℕ, Result, Ok}
 use Rattle.rd_base.specs.Results.{◌>>=◌}
 use Rattle.digest_core.specs.declared.name.DigestName.TheVariants.{Sha256}
 use Rattle.workload.specs.Workload.{big_data}
-use Rattle.delegate.specs.Loading.{start_in}
+use Rattle.delegate.specs.Loading.{start_or_refusal}
 use Rattle.delegate.specs.Decided.{Deciding, summary, response_to_case}
 use Rattle.delegate.specs.declared.response.Subject.TheVariants.{Whole}
 use Rattle.delegate.specs.declared.response.Response.{Response}
@@ -14,5 +14,5 @@ summing_up seed = record { digest = Sha256; written = summary seed }
 
 unfoldable pub big_response : ℕ → Result Response Response
 big_response seed = do
-  start ← start_in Whole (big_data seed)
+  start ← start_or_refusal Whole (big_data seed)
   Ok (response_to_case (summing_up seed) (big_data seed) start)

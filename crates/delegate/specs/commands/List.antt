@@ -9,7 +9,7 @@ use Rattle.case_reader.specs.declared.fault.Key.TheVariants as key
 use Rattle.case_reader.specs.declared.fault.CaseFault.TheVariants.{OutOfRange}
 use Rattle.rv_text.specs.Listing.{listing}
 use Rattle.delegate.specs.AsmImage.{words_at, asm_words}
-use Rattle.delegate.specs.Loading.{case_in, image_by}
+use Rattle.delegate.specs.Loading.{case_or_refusal, image_by}
 use Rattle.delegate.specs.Refusal.{case_refusal, asm_refusal, or_refusal}
 use Rattle.delegate.specs.declared.response.Subject.TheVariants.{Whole}
 use Rattle.delegate.specs.declared.response.Response.{Response}
@@ -37,6 +37,6 @@ words_by Elf file = Err format_refusal
 
 unfoldable pub list_response : List ℕ → Result Response Response
 list_response bytes = do
-  c ← case_in bytes
+  c ← case_or_refusal bytes
   words ← words_by c.format c.image
   Ok (record { answered = Done; text = listing words })

@@ -4,12 +4,12 @@ use Rattle.std.specs.Prelude.{ℕ, ◌+◌, List, nat_lt, Result, Ok, Err, if◌
 use Rattle.rd_base.specs.Results.{◌>>=◌}
 use Rattle.rv_step.specs.State.{State}
 use Rattle.rv_step.specs.Step.{state_at}
-use Rattle.segment_replay.specs.Roots.{own_root}
+use Rattle.segment_replay.specs.Roots.{root_of_state}
 use Rattle.case_reader.specs.Case.{CaseData}
 use Rattle.digest_core.specs.declared.name.DigestName.TheVariants.{Sha256}
 use Rattle.transcript_text.specs.Roots.{root_lines}
 use Rattle.digest_core.specs.Name.{digest_of}
-use Rattle.delegate.specs.Loading.{case_in, start_in}
+use Rattle.delegate.specs.Loading.{case_or_refusal, start_or_refusal}
 use Rattle.delegate.specs.Refusal.{bound_refusal}
 use Rattle.delegate.specs.declared.response.Subject.TheVariants.{Whole}
 use Rattle.delegate.specs.declared.response.Response.{Response}
@@ -21,11 +21,11 @@ within_bound c = if nat_lt 4096 c.bound then Err bound_refusal else Ok tt
 
 -- by a digest function; each root is of the version of its state
 abbrev pub roots_of_run : (List ℕ → List ℕ) → CaseData → State → Response
-roots_of_run digest c start = record { answered = Done; text = root_lines (λ i. own_root digest (state_at start i)) (c.bound + 1) }
+roots_of_run digest c start = record { answered = Done; text = root_lines (λ i. root_of_state digest (state_at start i)) (c.bound + 1) }
 
 unfoldable pub roots_response : List ℕ → Result Response Response
 roots_response bytes = do
-  c ← case_in bytes
+  c ← case_or_refusal bytes
   few ← within_bound c
-  start ← start_in Whole c
+  start ← start_or_refusal Whole c
   Ok (roots_of_run (digest_of Sha256) c start)

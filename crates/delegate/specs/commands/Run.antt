@@ -5,7 +5,7 @@ use Rattle.rv_step.specs.State.{State}
 use Rattle.rv_step.specs.Step.{state_at}
 use Rattle.case_reader.specs.Case.{CaseData}
 use Rattle.transcript_text.specs.Report.{answer_line_text}
-use Rattle.delegate.specs.Loading.{case_in, start_in}
+use Rattle.delegate.specs.Loading.{case_or_refusal, start_or_refusal}
 use Rattle.delegate.specs.declared.response.Subject.TheVariants.{Whole}
 use Rattle.delegate.specs.declared.response.Response.{Response}
 use Rattle.delegate.specs.declared.response.Answered.TheVariants.{Done}
@@ -17,6 +17,6 @@ answer_of_run c start =
 
 unfoldable pub run_response : List ℕ → Result Response Response
 run_response bytes = do
-  c ← case_in bytes
-  start ← start_in Whole c
+  c ← case_or_refusal bytes
+  start ← start_or_refusal Whole c
   Ok (answer_of_run c start)

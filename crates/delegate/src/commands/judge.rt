@@ -11,11 +11,11 @@ ghost use Rattle.transcript_text.specs.MoveLists.{moves_of};
 ghost use Rattle.transcript_text.specs.FullLines.{AreWritten};
 ghost use Rattle.transcript_text.specs.reader.InLimits.{AreBytes};
 ghost use Rattle.case_match.specs.Match.{record_of_case, verdict_of_record};
-ghost use Rattle.case_match.specs.Openings.{IsFresh, ended_of};
+ghost use Rattle.case_match.specs.Openings.{IsFresh, ended_of_loaded};
 ghost use Rattle.digest_core.specs.Name.{digest_of};
 ghost use Rattle.delegate.specs.Decided.{written_as, tasks_for, balances_in, match_text, response_of, response_to_case, match_head, answered_by, task_line, task_texts, gravest, together, responses_to_cases};
 ghost use Rattle.delegate.specs.Headline.{AreByteStrings};
-ghost use Rattle.delegate.specs.Standing.{Stands, AreInRange, AreInRangeIfThere, IsFreshStart, IsShown, EndsAreShown, AreAllShown, CanBePaid, responses};
+ghost use Rattle.delegate.specs.Standing.{Stands, AreInRangeOnceLoaded, AreInRangeIfThere, IsFreshStart, EndIsShown, EndsAreShown, AreAllShown, CanBePaid, responses};
 ghost use Rattle.delegate.specs.commands.Judge.{judging, response_to_tasks, judge_response};
 
 use crate::loading::{start_in, starts_in, tasks_in};
@@ -170,7 +170,7 @@ fn ended_by<R: Threads + Wait + Sync>(
     requires few { length loads.items ≤ 8 }
     requires fresh { All (λ l. IsFresh (digest_of name) l.start) loads.items }
     requires options { AreAtLeastOne options }
-    ensures { IfOk result (λ ends. ends.items ≡ map (ended_of (digest_of name)) loads.entry.items) }
+    ensures { IfOk result (λ ends. ends.items ≡ map (ended_of_loaded (digest_of name)) loads.entry.items) }
 {
     match name {
         DigestName::Sha256 => ended_tasks(rt, alloc, Sha256, loads, options, &OpenGate),
@@ -189,7 +189,7 @@ pub fn ended_one_by<R: Threads + Wait + Sync>(
 ) -> Result<Ended, Memory>
     requires fresh { IsFresh (digest_of name) loaded.start }
     requires options { AreAtLeastOne options }
-    ensures ended { IfOk result (λ end. end ≡ ended_of (digest_of name) loaded.entry) }
+    ensures ended { IfOk result (λ end. end ≡ ended_of_loaded (digest_of name) loaded.entry) }
     ensures settled_up { IfOk result (λ end. IsSettledUp (length loaded.entry.case.now.provers) end.match_record) }
 {
     match name {
@@ -256,7 +256,7 @@ fn add_text(
     end: &Ended,
 ) -> Result<(), Memory>
     requires { IsSettledUp (length case.now.provers) end.now.match_record }
-    ensures shown { IfOk result (λ done. IsShown (judging asked.text asked.name) end.now.match_record end.now.verdict) }
+    ensures shown { IfOk result (λ done. EndIsShown (judging asked.text asked.name) end.now.match_record end.now.verdict) }
     ensures text { OnOk result (out.new.items ≡ out.old.items ++ (task_line number ++ (response_of (judging asked.text asked.name) (data_of case.now) end.now.setup.start end.now.match_record end.now.verdict).text)) }
 {
     let line = format!(in alloc; "task {number}\n")?;
@@ -308,7 +308,7 @@ fn response_to_tasks<R: Threads + Wait + Sync>(
     requires few { AreFew tasks.now }
     requires options { AreAtLeastOne options }
     ensures stands { Stands (λ response. response) result (response_to_tasks (judging asked.text asked.name) (tasks_data tasks.now)) }
-    ensures in_range { IfOk result (λ response. AreInRange (judging asked.text asked.name) (tasks_data tasks.now)) }
+    ensures in_range { IfOk result (λ response. AreInRangeOnceLoaded (judging asked.text asked.name) (tasks_data tasks.now)) }
 {
     match tasks {
         Tasks::One(case) => {

@@ -4,7 +4,7 @@ ghost use Rattle.rv_step.specs.State.{state_of, IsChained};
 ghost use Rattle.rv_step.specs.Step.{state_at};
 ghost use Rattle.case_reader.specs.Case.{data_of};
 ghost use Rattle.transcript_text.specs.Roots.{root_lines};
-ghost use Rattle.segment_replay.specs.Roots.{own_root};
+ghost use Rattle.segment_replay.specs.Roots.{root_of_state};
 ghost use Rattle.delegate.specs.commands.Run.{run_response};
 ghost use Rattle.delegate.specs.commands.Roots.{within_bound, roots_of_run, roots_response};
 ghost use Rattle.delegate.specs.Standing.{Stands};
@@ -58,7 +58,7 @@ fn add_roots<D: Digester>(
     bound: u64,
 ) -> Result<(), Memory>
     requires { string_bytes text.old ≡ [] }
-    ensures { OnOk result (string_bytes text.new ≡ root_lines (λ i. own_root D.digest_of (state_at start i)) (bound + 1)) }
+    ensures { OnOk result (string_bytes text.new ≡ root_lines (λ i. root_of_state D.digest_of (state_at start i)) (bound + 1)) }
 {
     let mut committed = start;
     'states: for i in 0..bound {

@@ -4,7 +4,7 @@ use Rattle.std.proofs.lemmas.Bool.Decides.{nat_tests}
 use Rattle.std.specs.Char.{digit_value, is_ascii_hexdigit}
 use Rattle.std.specs.Str.Parse.{digits_value, digits_value_after}
 use Rattle.rv_text.specs.Characters.{is_of_operand, every}
-use Rattle.rv_text.specs.Numbers.{hex_in}
+use Rattle.rv_text.specs.Numbers.{hex_of_text}
 use Rattle.rv_text.specs.Operands.{hex_digit, hex_digits}
 
 hex-append : (n : ℕ) (xs : List ℕ) (c : ℕ) → digits_value_after 16 n (xs ++ c ∷ []) ≡ digits_value_after 16 n xs * 16 + digit_value c
@@ -47,14 +47,14 @@ unfolding hex_digits
 hex-length zero n = refl
 hex-length (suc k) n = grind (arith, length-append, hex-length k (n / 16))
 
-hex-in_list : (ds : List ℕ) → 0 < length ds → every is_ascii_hexdigit ds ≡ true → hex_in ds ≡ Some (digits_value 16 ds)
+hex-in_list : (ds : List ℕ) → 0 < length ds → every is_ascii_hexdigit ds ≡ true → hex_of_text ds ≡ Some (digits_value 16 ds)
 hex-in_list [] l h = let never : ⊥ = omega arith in elim never [ ]
 hex-in_list (c ∷ cs) l h = rw h refl
 
 hex-positive : (n : ℕ) → 0 < length (hex_digits 8 n)
 hex-positive n = rw (hex-length 8 n) (omega arith)
 
-pub hex-in_digits : (n : ℕ) → n < 2 ^ 32 → hex_in (hex_digits 8 n) ≡ Some n
+pub hex-in_digits : (n : ℕ) → n < 2 ^ 32 → hex_of_text (hex_digits 8 n) ≡ Some n
 hex-in_digits n h = hex-in_list (hex_digits 8 n) (hex-positive n) (hex-digits_hex 8 n) ∙ ap (λ m. Some m) (hex-value 8 n (omega arith))
 
 pub hex_step : (k n : ℕ) → 0 < k → hex_digits k n ≡ hex_digits (k - 1) (n / 16) ++ hex_digit (n % 16) ∷ []

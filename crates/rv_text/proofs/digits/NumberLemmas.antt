@@ -9,7 +9,7 @@ use Rattle.std.specs.Fmt.{signed_decimal}
 use Rattle.std.specs.Str.{all_ascii_digits}
 use Rattle.std.specs.Str.Parse.{digits_value}
 use Rattle.rv_text.specs.Characters.{is_of_operand, is_of_name, every, begins, is_name}
-use Rattle.rv_text.specs.Numbers.{is_natural, natural_in, number_in, register_in}
+use Rattle.rv_text.specs.Numbers.{is_natural, natural_of_text, number_of_text, register_of_text}
 
 own : IsNumeralModel (λ ds. all_ascii_digits ds ≡ true) (digits_value 10)
 own = numerals_by_value _ tells_all_ascii_digits
@@ -37,20 +37,20 @@ natural-decimal_is : (n : ℕ) → n < 2 ^ 64 → is_natural (decimal n) ≡ tru
 natural-decimal_is zero h = rw (decimal_digit 0 (omega arith)) refl
 natural-decimal_is (suc n) h = natural-is (decimal (suc n)) (every-digits (decimal (suc n)) ∙ decimal-digits (suc n) h) (decimal_nonempty (suc n) h) (inl (first_decimal (suc n) (omega arith) h))
 
-pub natural-decimal : (n : ℕ) → n < 2 ^ 64 → natural_in (decimal n) ≡ Some n
+pub natural-decimal : (n : ℕ) → n < 2 ^ 64 → natural_of_text (decimal n) ≡ Some n
 natural-decimal n h = grind (arith, natural-decimal_is n h, digits_value-decimal own n h)
 
 -- a natural number begins neither with `-` nor with `0x`
-number-natural : (ds : List ℕ) (n : ℕ) → all_ascii_digits ds ≡ true → natural_in ds ≡ Some n → number_in ds ≡ Some (pos n)
+number-natural : (ds : List ℕ) (n : ℕ) → all_ascii_digits ds ≡ true → natural_of_text ds ≡ Some n → number_of_text ds ≡ Some (pos n)
 number-natural [] n h e = grind arith
 number-natural (c ∷ []) n h e = grind (arith, nat_tests)
 number-natural (c ∷ d ∷ ds) n h e = grind (arith, nat_tests)
 
-pub number-signed : (z : ℤ) → unsigned_abs z < 2 ^ 63 → number_in (signed_decimal z) ≡ Some z
+pub number-signed : (z : ℤ) → unsigned_abs z < 2 ^ 63 → number_of_text (signed_decimal z) ≡ Some z
 number-signed (pos n) h = number-natural (decimal n) n (decimal-digits n (omega arith)) (natural-decimal n (omega arith))
 number-signed (negsuc n) h = rw (natural-decimal (suc n) (omega arith)) refl
 
-pub register-decimal : (n : ℕ) → n < 32 → register_in (120 ∷ decimal n) ≡ Some (pos n)
+pub register-decimal : (n : ℕ) → n < 32 → register_of_text (120 ∷ decimal n) ≡ Some (pos n)
 register-decimal n h = rw (natural-decimal n (omega arith)) (grind (arith, nat_tests))
 
 pub signed-operand : (z : ℤ) → unsigned_abs z < 2 ^ 32 → every is_of_operand (signed_decimal z) ≡ true

@@ -4,10 +4,10 @@ use Rattle.std.proofs.lemmas.Bool.{true≢false, false≢true, and_parts, ltb-tr
 use Rattle.std.specs.Prelude.{◌↔◌, ◌==◌, ◌&&◌, ◌||◌, if◌then◌else◌, nat_lt}
 use Rattle.rd_base.specs.Results.{◌>>=◌}
 use Rattle.rv_text.specs.Characters.{is_blank, skip, is_empty, begins, is_name}
-use Rattle.rv_text.specs.Numbers.{number_in, register_in}
+use Rattle.rv_text.specs.Numbers.{number_of_text, register_of_text}
 use Rattle.rv_text.specs.Fields.{is_in, is_register, is_target}
-use Rattle.rv_text.specs.Faults.{number_of}
-use Rattle.rv_text.specs.Operands.{Distances, slots_of, field_of, written, distant, registered, registered_in, operand_in, both, after_slot, or_other_form, operands_in, operands_of, next_operand, after_operand, has_none}
+use Rattle.rv_text.specs.Faults.{number_of_kind}
+use Rattle.rv_text.specs.Operands.{Distances, slots_of, field_of, ranged_if_read, ranged_if_defined, registered, registered_in, operand_in, both, after_slot, or_other_form, operands_in, operands_of, next_operand, after_operand, has_none}
 use Rattle.rv_text.specs.Rows.{row_named, word_by}
 use Rattle.rv_text.specs.Lines.{first_word, after_first_word, word_of_row, word_of_statement, word_in}
 use Rattle.rv_text.specs.Unknown.{HasUnknownMnemonic}
@@ -23,7 +23,7 @@ use Rattle.rv_text.specs.declared.fault.FaultKind.TheVariants.{OtherForm, Unknow
 kind_of : ℕ → FaultKind
 kind_of n = if n == 1 then OtherForm else if n == 2 then UnknownMnemonic else if n == 3 then NoRegister else if n == 4 then OutOfRange else if n == 5 then Undefined else DefinedTwice
 
-kind-back : (k : FaultKind) → kind_of (number_of k) ≡ k
+kind-back : (k : FaultKind) → kind_of (number_of_kind k) ≡ k
 unfolding kind_of
 kind-back OtherForm = refl
 kind-back UnknownMnemonic = refl
@@ -32,8 +32,8 @@ kind-back OutOfRange = refl
 kind-back Undefined = refl
 kind-back DefinedTwice = refl
 
-pub same-kind : (j k : FaultKind) → number_of j ≤ number_of k → number_of k ≤ number_of j → j ≡ k
-same-kind j k p q = let same : number_of j ≡ number_of k = omega arith in sym (kind-back j) ∙ ap kind_of same ∙ kind-back k
+pub same-kind : (j k : FaultKind) → number_of_kind j ≤ number_of_kind k → number_of_kind k ≤ number_of_kind j → j ≡ k
+same-kind j k p q = let same : number_of_kind j ≡ number_of_kind k = omega arith in sym (kind-back j) ∙ ap kind_of same ∙ kind-back k
 
 -- ---- what a result says of the faults that there are
 -- there is none, or the result is the least of them
@@ -50,7 +50,7 @@ module _ (H : FaultKind → Type 0) where
   none-of_six a b c d e f Undefined = e
   none-of_six a b c d e f DefinedTwice = f
 
-  from-1 : (j : FaultKind) → H j → 1 ≤ number_of j
+  from-1 : (j : FaultKind) → H j → 1 ≤ number_of_kind j
   from-1 OtherForm h = omega arith
   from-1 UnknownMnemonic h = omega arith
   from-1 NoRegister h = omega arith
@@ -58,7 +58,7 @@ module _ (H : FaultKind → Type 0) where
   from-1 Undefined h = omega arith
   from-1 DefinedTwice h = omega arith
 
-  from-2 : (H OtherForm → ⊥) → (j : FaultKind) → H j → 2 ≤ number_of j
+  from-2 : (H OtherForm → ⊥) → (j : FaultKind) → H j → 2 ≤ number_of_kind j
   from-2 a OtherForm h = absurd (a h)
   from-2 a UnknownMnemonic h = omega arith
   from-2 a NoRegister h = omega arith
@@ -66,7 +66,7 @@ module _ (H : FaultKind → Type 0) where
   from-2 a Undefined h = omega arith
   from-2 a DefinedTwice h = omega arith
 
-  from-3 : (H OtherForm → ⊥) → (H UnknownMnemonic → ⊥) → (j : FaultKind) → H j → 3 ≤ number_of j
+  from-3 : (H OtherForm → ⊥) → (H UnknownMnemonic → ⊥) → (j : FaultKind) → H j → 3 ≤ number_of_kind j
   from-3 a b OtherForm h = absurd (a h)
   from-3 a b UnknownMnemonic h = absurd (b h)
   from-3 a b NoRegister h = omega arith
@@ -74,7 +74,7 @@ module _ (H : FaultKind → Type 0) where
   from-3 a b Undefined h = omega arith
   from-3 a b DefinedTwice h = omega arith
 
-  from-4 : (H OtherForm → ⊥) → (H UnknownMnemonic → ⊥) → (H NoRegister → ⊥) → (j : FaultKind) → H j → 4 ≤ number_of j
+  from-4 : (H OtherForm → ⊥) → (H UnknownMnemonic → ⊥) → (H NoRegister → ⊥) → (j : FaultKind) → H j → 4 ≤ number_of_kind j
   from-4 a b c OtherForm h = absurd (a h)
   from-4 a b c UnknownMnemonic h = absurd (b h)
   from-4 a b c NoRegister h = absurd (c h)
@@ -82,7 +82,7 @@ module _ (H : FaultKind → Type 0) where
   from-4 a b c Undefined h = omega arith
   from-4 a b c DefinedTwice h = omega arith
 
-  from-5 : (H OtherForm → ⊥) → (H UnknownMnemonic → ⊥) → (H NoRegister → ⊥) → (H OutOfRange → ⊥) → (j : FaultKind) → H j → 5 ≤ number_of j
+  from-5 : (H OtherForm → ⊥) → (H UnknownMnemonic → ⊥) → (H NoRegister → ⊥) → (H OutOfRange → ⊥) → (j : FaultKind) → H j → 5 ≤ number_of_kind j
   from-5 a b c d OtherForm h = absurd (a h)
   from-5 a b c d UnknownMnemonic h = absurd (b h)
   from-5 a b c d NoRegister h = absurd (c h)
@@ -99,7 +99,7 @@ then-judged H f (Ok x) h = h
 then-judged H f (Err k) h = h
 
 -- of two faults the one with the lesser number
-earlier-least : (H G : FaultKind → Type 0) (j k : FaultKind) → IsLeast H j → IsLeast G k → (t : Bool) → nat_lt (number_of k) (number_of j) ≡ t → IsLeast (λ i. H i ⊎ G i) (if t then k else j)
+earlier-least : (H G : FaultKind → Type 0) (j k : FaultKind) → IsLeast H j → IsLeast G k → (t : Bool) → nat_lt (number_of_kind k) (number_of_kind j) ≡ t → IsLeast (λ i. H i ⊎ G i) (if t then k else j)
 earlier-least H G j k h g true e = record {
   is_there = inr g.is_there;
   is_least = λ i there. ⊎_elim (λ a. omega (arith, ltb-true _ _ e, h.is_least i a)) (λ b. g.is_least i b) there;
@@ -113,7 +113,7 @@ both-judged : (H G : FaultKind → Type 0) (r : Result ℤ FaultKind) (s : Resul
 both-judged H G (Ok z) (Ok zs) h g = λ k there. ⊎_elim (h k) (g k) there
 both-judged H G (Ok z) (Err k) h g = record { is_there = inr g.is_there; is_least = λ j there. ⊎_elim (λ a. absurd (h j a)) (λ b. g.is_least j b) there }
 both-judged H G (Err j) (Ok zs) h g = record { is_there = inl h.is_there; is_least = λ i there. ⊎_elim (λ a. h.is_least i a) (λ b. absurd (g i b)) there }
-both-judged H G (Err j) (Err k) h g = earlier-least H G j k h g (nat_lt (number_of k) (number_of j)) refl
+both-judged H G (Err j) (Err k) h g = earlier-least H G j k h g (nat_lt (number_of_kind k) (number_of_kind j)) refl
 
 -- ---- one operand
 IsCause : Distances → Field → List ℕ → FaultKind → Type 0
@@ -143,7 +143,7 @@ module _ (d : Distances) (f : Field) (x : List ℕ) where
   no-undefined_register : is_register f ≡ true → IsUndefined d f x → ⊥
   no-undefined_register r h = target-no_register f h.of_target r
 
-  registered-judged : is_register f ≡ true → (n : Bool) → is_name x ≡ n → (o : Option ℤ) → register_in x ≡ o → Judged (IsCause d f x) (if n then registered o else Err OtherForm)
+  registered-judged : is_register f ≡ true → (n : Bool) → is_name x ≡ n → (o : Option ℤ) → register_of_text x ≡ o → Judged (IsCause d f x) (if n then registered o else Err OtherForm)
   unfolding IsCause
   registered-judged r true n (Some z) o =
       none-of_six (IsCause d f x)
@@ -159,9 +159,9 @@ module _ (d : Distances) (f : Field) (x : List ℕ) where
     is_least = from-1 (IsCause d f x);
   }
 
-  distant-judged : is_register f ≡ false → (is_target f && is_name x) ≡ true → (o : Option ℤ) → d x ≡ o → Judged (IsCause d f x) (distant f o)
+  ranged_if_defined-judged : is_register f ≡ false → (is_target f && is_name x) ≡ true → (o : Option ℤ) → d x ≡ o → Judged (IsCause d f x) (ranged_if_defined f o)
   unfolding IsCause
-  distant-judged r t (Some z) o = ranged-at (is_in f z) refl
+  ranged_if_defined-judged r t (Some z) o = ranged-at (is_in f z) refl
     where
       form : may_stand f x ≡ false → ⊥
       form h = true≢false (sym (rw (r, t) refl) ∙ h)
@@ -181,7 +181,7 @@ module _ (d : Distances) (f : Field) (x : List ℕ) where
         is_there = record { of_number = r; number = z; stands = number; is_outside = i };
         is_least = from-4 (IsCause d f x) form (λ h. h) register;
       }
-  distant-judged r t None o =
+  ranged_if_defined-judged r t None o =
       let parts = and_parts (is_target f) (is_name x) t in
       record {
         is_there = record { of_target = parts.0; is_a_name = parts.1; is_undefined = o };
@@ -189,9 +189,9 @@ module _ (d : Distances) (f : Field) (x : List ℕ) where
             (λ h. let none : stands_for d f x ≡ None = rw t o in let known : None ≡ Some h.number = sym none ∙ h.stands in absurd cc);
       }
 
-  written-judged : is_register f ≡ false → (is_target f && is_name x) ≡ false → (o : Option ℤ) → number_in x ≡ o → Judged (IsCause d f x) (written f o)
+  ranged_if_read-judged : is_register f ≡ false → (is_target f && is_name x) ≡ false → (o : Option ℤ) → number_of_text x ≡ o → Judged (IsCause d f x) (ranged_if_read f o)
   unfolding IsCause
-  written-judged r t (Some z) o = ranged-at (is_in f z) refl
+  ranged_if_read-judged r t (Some z) o = ranged-at (is_in f z) refl
     where
       form : may_stand f x ≡ false → ⊥
       form h = true≢false (sym (rw (r, t, o) refl) ∙ h)
@@ -214,7 +214,7 @@ module _ (d : Distances) (f : Field) (x : List ℕ) where
         is_there = record { of_number = r; number = z; stands = number; is_outside = i };
         is_least = from-4 (IsCause d f x) form (λ h. h) register;
       }
-  written-judged r t None o = record {
+  ranged_if_read-judged r t None o = record {
     is_there = rw (r, t, o) refl;
     is_least = from-1 (IsCause d f x);
   }
@@ -222,12 +222,12 @@ module _ (d : Distances) (f : Field) (x : List ℕ) where
   operand-judged : Judged (IsCause d f x) (operand_in d f x)
   operand-judged = by (is_register f) refl
     where
-      by-target : is_register f ≡ false → (t : Bool) → (is_target f && is_name x) ≡ t → Judged (IsCause d f x) (if t then distant f (d x) else written f (number_in x))
-      by-target r true t = distant-judged r t (d x) refl
-      by-target r false t = written-judged r t (number_in x) refl
+      by-target : is_register f ≡ false → (t : Bool) → (is_target f && is_name x) ≡ t → Judged (IsCause d f x) (if t then ranged_if_defined f (d x) else ranged_if_read f (number_of_text x))
+      by-target r true t = ranged_if_defined-judged r t (d x) refl
+      by-target r false t = ranged_if_read-judged r t (number_of_text x) refl
 
-      by : (b : Bool) → is_register f ≡ b → Judged (IsCause d f x) (if b then registered_in x else if is_target f && is_name x then distant f (d x) else written f (number_in x))
-      by true r = registered-judged r (is_name x) refl (register_in x) refl
+      by : (b : Bool) → is_register f ≡ b → Judged (IsCause d f x) (if b then registered_in x else if is_target f && is_name x then ranged_if_defined f (d x) else ranged_if_read f (number_of_text x))
+      by true r = registered-judged r (is_name x) refl (register_of_text x) refl
       by false r = by-target r (is_target f && is_name x) refl
 
 -- ---- all operands

@@ -4,10 +4,10 @@ use Rattle.std.proofs.lemmas.Bool.{false≢true, true≢false}
 use Rattle.std.specs.Prelude.{◌==◌, if◌then◌else◌, nat_lt, is_ok}
 use Rattle.rd_base.specs.Results.{◌>>=◌}
 use Rattle.rv_text.specs.Characters.{is_empty, is_name}
-use Rattle.rv_text.specs.Numbers.{number_in}
+use Rattle.rv_text.specs.Numbers.{number_of_text}
 use Rattle.rv_text.specs.Fields.{is_in, is_target}
-use Rattle.rv_text.specs.Faults.{number_of, earlier}
-use Rattle.rv_text.specs.Operands.{Distances, slots_of, field_of, written, distant, registered_in, operand_in, both, after_slot, or_other_form, operands_in, operands_of, next_operand, after_operand}
+use Rattle.rv_text.specs.Faults.{number_of_kind, earlier}
+use Rattle.rv_text.specs.Operands.{Distances, slots_of, field_of, ranged_if_read, ranged_if_defined, registered_in, operand_in, both, after_slot, or_other_form, operands_in, operands_of, next_operand, after_operand}
 use Rattle.rv_text.specs.Rows.{row_named, word_by}
 use Rattle.rv_text.specs.Lines.{first_word, after_first_word, word_of_row, word_of_statement, word_in}
 use Rattle.rv_text.specs.Assembly.{near}
@@ -46,24 +46,24 @@ err-not_ok x k e = false≢true (ap is_ok e)
 
 -- what follows from each name in a target's place, with its distance
 abbrev Distant : (FaultKind → Type 0) → Distances → Field → List ℕ → Type 0
-Distant C d f name = is_target f ≡ true → is_name name ≡ true → (k : FaultKind) → distant f (d name) ≡ Err k → C k
+Distant C d f name = is_target f ≡ true → is_name name ≡ true → (k : FaultKind) → ranged_if_defined f (d name) ≡ Err k → C k
 
-target-later : (C : FaultKind → Type 0) (f : Field) (b : Bool) (o p q : Option ℤ) → (b ≡ true → (k : FaultKind) → distant f p ≡ Err k → C k) → Later C (if b then distant f o else written f q) (if b then distant f p else written f q)
+target-later : (C : FaultKind → Type 0) (f : Field) (b : Bool) (o p q : Option ℤ) → (b ≡ true → (k : FaultKind) → ranged_if_defined f p ≡ Err k → C k) → Later C (if b then ranged_if_defined f o else ranged_if_read f q) (if b then ranged_if_defined f p else ranged_if_read f q)
 unfolding Later
 target-later C f true o p q c = λ x h k e. c refl k e
-target-later C f false o p q c = λ x h k e. elim (not-both (written f q) x k h e) [ ]
+target-later C f false o p q c = λ x h k e. elim (not-both (ranged_if_read f q) x k h e) [ ]
 
 operand-later : (C : FaultKind → Type 0) (d : Distances) (f : Field) (text : List ℕ) → Distant C d f text → Later C (operand_in near f text) (operand_in d f text)
 operand-later C d Rd text c = same-later C (registered_in text)
 operand-later C d Rs1 text c = same-later C (registered_in text)
 operand-later C d Rs2 text c = same-later C (registered_in text)
-operand-later C d Immediate text c = same-later C (written Immediate (number_in text))
-operand-later C d Shift text c = same-later C (written Shift (number_in text))
-operand-later C d StoreOffset text c = same-later C (written StoreOffset (number_in text))
-operand-later C d BranchTarget text c = target-later C BranchTarget (is_name text) (near text) (d text) (number_in text) (c refl)
-operand-later C d JumpTarget text c = target-later C JumpTarget (is_name text) (near text) (d text) (number_in text) (c refl)
-operand-later C d Upper text c = same-later C (written Upper (number_in text))
-operand-later C d Word text c = same-later C (written Word (number_in text))
+operand-later C d Immediate text c = same-later C (ranged_if_read Immediate (number_of_text text))
+operand-later C d Shift text c = same-later C (ranged_if_read Shift (number_of_text text))
+operand-later C d StoreOffset text c = same-later C (ranged_if_read StoreOffset (number_of_text text))
+operand-later C d BranchTarget text c = target-later C BranchTarget (is_name text) (near text) (d text) (number_of_text text) (c refl)
+operand-later C d JumpTarget text c = target-later C JumpTarget (is_name text) (near text) (d text) (number_of_text text) (c refl)
+operand-later C d Upper text c = same-later C (ranged_if_read Upper (number_of_text text))
+operand-later C d Word text c = same-later C (ranged_if_read Word (number_of_text text))
 
 earlier-cause : (C : FaultKind → Type 0) (b : Bool) (j k : FaultKind) → C j → C k → C (if b then k else j)
 earlier-cause C true j k h i = i
@@ -74,7 +74,7 @@ unfolding Later
 both-later C (Ok z) (Ok y) (Ok zs) (Ok ys) h i = λ x e k f. elim (ok-not_err (y ∷ ys) k f) [ ]
 both-later C (Ok z) (Ok y) (Ok zs) (Err j) h i = λ x e k f. subst C (same-fault j k f) (i zs refl j refl)
 both-later C (Ok z) (Err j) (Ok zs) (Ok ys) h i = λ x e k f. subst C (same-fault j k f) (h z refl j refl)
-both-later C (Ok z) (Err j) (Ok zs) (Err l) h i = λ x e k f. subst C (same-fault (earlier j l) k f) (earlier-cause C (nat_lt (number_of l) (number_of j)) j l (h z refl j refl) (i zs refl l refl))
+both-later C (Ok z) (Err j) (Ok zs) (Err l) h i = λ x e k f. subst C (same-fault (earlier j l) k f) (earlier-cause C (nat_lt (number_of_kind l) (number_of_kind j)) j l (h z refl j refl) (i zs refl l refl))
 both-later C (Ok z) s (Err j) ss h i = λ x e. elim (err-not_ok x j e) [ ]
 both-later C (Err j) s (Ok zs) ss h i = λ x e. elim (err-not_ok x j e) [ ]
 both-later C (Err j) s (Err l) ss h i = λ x e. elim (err-not_ok x (earlier j l) e) [ ]
@@ -117,7 +117,7 @@ unless-later C false q r s h = h
 
 -- what follows from each name that is the target of a statement
 abbrev OfTarget : (FaultKind → Type 0) → Distances → List ℕ → Type 0
-OfTarget C d text = (f : Field) (name : List ℕ) → HasTarget text f name → (k : FaultKind) → distant f (d name) ≡ Err k → C k
+OfTarget C d text = (f : Field) (name : List ℕ) → HasTarget text f name → (k : FaultKind) → ranged_if_defined f (d name) ≡ Err k → C k
 
 word-later : (C : FaultKind → Type 0) (d : Distances) (text : List ℕ) → OfTarget C d text → (w : Option ℕ) (k : FaultKind) → word_in near text ≡ Ok w → word_in d text ≡ Err k → C k
 unfolding word_in Later
@@ -136,13 +136,13 @@ unfolding Cause
 ranged-cause d text f name has z is true out k e = elim (ok-not_err z k e) [ ]
 ranged-cause d text f name has z is false out k e = inr (sym (same-fault OutOfRange k e), record { field = f; name = name; distance = z; has_target = has; is_distance = is; is_far = out })
 
-distant-cause : (d : Distances) (text : List ℕ) (f : Field) (name : List ℕ) → HasTarget text f name → (o : Option ℤ) → d name ≡ o → (k : FaultKind) → distant f o ≡ Err k → Cause d text k
+ranged_if_defined-cause : (d : Distances) (text : List ℕ) (f : Field) (name : List ℕ) → HasTarget text f name → (o : Option ℤ) → d name ≡ o → (k : FaultKind) → ranged_if_defined f o ≡ Err k → Cause d text k
 unfolding Cause
-distant-cause d text f name has (Some z) is k e = ranged-cause d text f name has z is (is_in f z) refl k e
-distant-cause d text f name has None is k e = inl (sym (same-fault Undefined k e), record { field = f; name = name; has_target = has; is_undefined = is })
+ranged_if_defined-cause d text f name has (Some z) is k e = ranged-cause d text f name has z is (is_in f z) refl k e
+ranged_if_defined-cause d text f name has None is k e = inl (sym (same-fault Undefined k e), record { field = f; name = name; has_target = has; is_undefined = is })
 
 word-cause : (d : Distances) (text : List ℕ) (w : Option ℕ) (k : FaultKind) → word_in near text ≡ Ok w → word_in d text ≡ Err k → Cause d text k
-word-cause d text = word-later (Cause d text) d text (λ f name has. distant-cause d text f name has (d name) refl)
+word-cause d text = word-later (Cause d text) d text (λ f name has. ranged_if_defined-cause d text f name has (d name) refl)
 
 of-name : (d : Distances) (text : List ℕ) (k : FaultKind) → Cause d text k → OfName k
 unfolding Cause
@@ -150,7 +150,7 @@ of-name d text k (inl h) = inl h.0
 of-name d text k (inr h) = inr h.0
 
 undefined-not_far : Undefined ≡ OutOfRange → ⊥
-undefined-not_far e = false≢true (ap (λ k. number_of k == 4) e)
+undefined-not_far e = false≢true (ap (λ k. number_of_kind k == 4) e)
 
 of-undefined : (d : Distances) (text : List ℕ) → Cause d text Undefined → HasUndefinedTarget d text
 unfolding Cause

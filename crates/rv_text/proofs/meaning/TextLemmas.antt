@@ -5,14 +5,14 @@ use Rattle.std.proofs.lemmas.List.{ext_get_or}
 use Rattle.std.specs.Prelude.{◌↔◌, if◌then◌else◌, not, is_some}
 use Rattle.rd_base.specs.Results.{◌>>=◌, map_fault}
 use Rattle.rv_text.specs.Characters.{is_empty, source_lines}
-use Rattle.rv_text.specs.Faults.{number_of, fault}
+use Rattle.rv_text.specs.Faults.{number_of_kind, fault}
 use Rattle.rv_text.specs.Operands.{Distances}
 use Rattle.rv_text.specs.Lines.{code_in, statement_in, word_of_statement, word_in}
-use Rattle.rv_text.specs.Assembly.{Names, no_names, near, distances_from, with_label, with_name, place_after, Pass, pass, after_line, first_pass, also, word_of_line, second_pass, assembled}
+use Rattle.rv_text.specs.Assembly.{Names, no_names, near, distances_from, with_label, with_name, place_after, Pass, pass, after_line, first_pass, with_word, word_of_line, second_pass, assembled}
 use Rattle.rv_text.specs.Labels.{has_statement, word_count}
 use Rattle.rv_text.specs.Meaning.{StandsForWord}
 use Rattle.rv_text.specs.Causes.{HasFault, IsLeast}
-use Rattle.rv_text.specs.LineFaults.{line_at, label_at, statement_at, words_before, IsLabelledBefore, IsDefinedTwice, HasLineFault, distances_at, HasLaterFault, AreFaultless, IsFirstFault, AreWordsOf, ArePlaces, IsAssembled, IsFaultOf, at_first, later}
+use Rattle.rv_text.specs.LineFaults.{line_at, label_at, statement_at, words_before, IsLabelledBefore, IsDefinedTwice, HasLineFault, distances_at, HasLaterFault, AreFaultless, IsFirstFault, AreWordsOf, AreNamesOf, IsAssembled, IsFaultOf, at_first, later}
 use Rattle.rv_text.specs.declared.fault.FaultKind.{FaultKind}
 use Rattle.rv_text.specs.declared.fault.FaultKind.TheVariants.{OtherForm, UnknownMnemonic, NoRegister, OutOfRange, Undefined, DefinedTwice}
 use Rattle.rv_text.specs.declared.fault.AsmFault.{AsmFault}
@@ -38,7 +38,7 @@ record KnowsLabels (lines : List (List ℕ)) (i : ℕ) (names : Names) : Type 0 
 same-some : {A : Type 0} {x y : A} → Some x ≡ Some y → x ≡ y
 same-some e = cc
 
-at-most-6 : (k : FaultKind) → number_of k ≤ 6
+at-most-6 : (k : FaultKind) → number_of_kind k ≤ 6
 at-most-6 OtherForm = omega arith
 at-most-6 UnknownMnemonic = omega arith
 at-most-6 NoRegister = omega arith
@@ -46,7 +46,7 @@ at-most-6 OutOfRange = omega arith
 at-most-6 Undefined = omega arith
 at-most-6 DefinedTwice = omega arith
 
-twice-last : (lines : List (List ℕ)) (i : ℕ) (j k : FaultKind) → TwiceAlone lines i k → number_of j ≤ number_of k
+twice-last : (lines : List (List ℕ)) (i : ℕ) (j k : FaultKind) → TwiceAlone lines i k → number_of_kind j ≤ number_of_kind k
 unfolding TwiceAlone
 twice-last lines i j OtherForm h = absurd h
 twice-last lines i j UnknownMnemonic h = absurd h
@@ -56,7 +56,7 @@ twice-last lines i j Undefined h = absurd h
 twice-last lines i j DefinedTwice h = at-most-6 j
 
 -- two parts of which the second one's fault counts only if the first has none
-in-turn : {A B : Type 0} (H G : FaultKind → Type 0) (r : Result A FaultKind) (s : A → Result B FaultKind) → ((j k : FaultKind) → G k → number_of j ≤ number_of k) → Judged H r → ((x : A) → Judged G (s x)) → Judged (λ k. H k ⊎ G k) (r >>= s)
+in-turn : {A B : Type 0} (H G : FaultKind → Type 0) (r : Result A FaultKind) (s : A → Result B FaultKind) → ((j k : FaultKind) → G k → number_of_kind j ≤ number_of_kind k) → Judged H r → ((x : A) → Judged G (s x)) → Judged (λ k. H k ⊎ G k) (r >>= s)
 in-turn {A} {B} H G (Ok x) s last h g = same-judged G (λ k. H k ⊎ G k) (s x) (λ k. inr) (λ k there. ⊎_elim (λ a. absurd (h k a)) (λ b. b) there) (g x)
 in-turn H G (Err j) s last h g = record { is_there = inl h.is_there; is_least = λ k there. ⊎_elim (λ a. h.is_least k a) (λ b. last j k b) there }
 
@@ -219,10 +219,10 @@ second-scanned : (names : Names) (lines ls : List (List ℕ)) (m n high place : 
 second-scanned names lines [] m n high place same is end all at = λ i low below k h. absurd (omega arith)
 second-scanned names lines (l ∷ ls) m n high place same is end all at =
     let here = this-line lines m l ls same in
-    scan-step (HasLaterFault names lines) m n high (word_of_line names place l) (λ w. second_pass (n + 1) names (place_after place w) ls >>= λ ws. Ok (also w ws)) is (omega arith)
+    scan-step (HasLaterFault names lines) m n high (word_of_line names place l) (λ w. second_pass (n + 1) names (place_after place w) ls >>= λ ws. Ok (with_word w ws)) is (omega arith)
     (subst (λ l. Judged (HasLaterFault names lines m) (word_of_line names place l)) here
     (subst (λ (x : ℕ). Judged (HasLaterFault names lines m) (word_of_line names x (line_at lines m))) (sym at) (statement-judged (distances_at names lines m) (statement_at lines m))))
-    (λ w e. then-scanned (HasLaterFault names lines) (m + 1) high (also w) (second_pass (n + 1) names (place_after place w) ls)
+    (λ w e. then-scanned (HasLaterFault names lines) (m + 1) high (with_word w) (second_pass (n + 1) names (place_after place w) ls)
     (second-scanned names lines ls (m + 1) (n + 1) high (place_after place w) (next-lines lines m l ls same) (omega arith) (omega arith) all
     (next-place w e)))
   where
@@ -254,10 +254,10 @@ line-word d (c ∷ cs) w e = by (word_of_statement d (c ∷ cs)) refl w e
     by (Ok y) is None e = absurd cc
     by (Err k) is w e = absurd cc
 
-words-also : (names : Names) (place : ℕ) (l : List ℕ) (ls : List (List ℕ)) (w : Option ℕ) (ws : List ℕ) → LineWord (distances_from names place) (statement_in (code_in l)) w (has_statement l)
-    → AreWordsFrom names (place_after place w) ls ws → AreWordsFrom names place (l ∷ ls) (also w ws)
+words-with_word : (names : Names) (place : ℕ) (l : List ℕ) (ls : List (List ℕ)) (w : Option ℕ) (ws : List ℕ) → LineWord (distances_from names place) (statement_in (code_in l)) w (has_statement l)
+    → AreWordsFrom names (place_after place w) ls ws → AreWordsFrom names place (l ∷ ls) (with_word w ws)
 unfolding LineWord
-words-also names place l ls (Some x) ws is rest =
+words-with_word names place l ls (Some x) ws is rest =
     let one : counted (has_statement l) ≡ 1 = ap counted is.0 in
     record {
       count = let some = rest.count in omega arith;
@@ -271,7 +271,7 @@ words-also names place l ls (Some x) ws is rest =
         let at : place + 4 * words_before (l ∷ ls) (suc i) ≡ place + 4 + 4 * words_before ls i = omega arith in
         let behind : words_before (l ∷ ls) (suc i) ≡ suc (words_before ls i) = omega arith in
         ap (λ (at : ℕ). word_of_statement (distances_from names at) (statement_at ls i)) at ∙ rest.each i (omega arith) has ∙ ap (λ (k : ℕ). Ok (slice_index (x ∷ ws) k)) (sym behind)
-words-also names place l ls None ws is rest =
+words-with_word names place l ls None ws is rest =
     let none : counted (has_statement l) ≡ 0 = ap counted is in
     record {
       count = let some = rest.count in omega arith;
@@ -290,8 +290,8 @@ second-words n names place [] ws e = subst (AreWordsFrom names place []) (same-o
 second-words n names place (l ∷ ls) ws e =
     let w = then-ok (map_fault (fault n) (word_of_line names place l)) _ ws e in
     let rest = then-ok (second_pass (n + 1) names (place_after place w.0) ls) _ ws w.2 in
-    subst (AreWordsFrom names place (l ∷ ls)) (same-ok (also w.0 rest.0) ws rest.2)
-    (words-also names place l ls w.0 rest.0 (line-word (distances_from names place) (statement_in (code_in l)) w.0 (mapped-ok (fault n) (word_of_line names place l) w.0 w.1))
+    subst (AreWordsFrom names place (l ∷ ls)) (same-ok (with_word w.0 rest.0) ws rest.2)
+    (words-with_word names place l ls w.0 rest.0 (line-word (distances_from names place) (statement_in (code_in l)) w.0 (mapped-ok (fault n) (word_of_line names place l) w.0 w.1))
     (second-words (n + 1) names (place_after place w.0) ls rest.0 rest.1))
 
 -- ---- a text
@@ -352,7 +352,7 @@ one-first has_fault lines f g a b = ⊎_elim
     (cases_lt a.index b.index)
 
 -- names with the same places are one
-same-places : (lines : List (List ℕ)) (a b : Names) → ArePlaces a lines → ArePlaces b lines → a ≡ b
+same-places : (lines : List (List ℕ)) (a b : Names) → AreNamesOf a lines → AreNamesOf b lines → a ≡ b
 same-places lines a b p q = λ i name. each name i
   where
     one : (name : List ℕ) (x y : Option ℕ) → a name ≡ x → b name ≡ y → x ≡ y

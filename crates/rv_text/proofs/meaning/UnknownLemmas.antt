@@ -3,10 +3,10 @@ use Rattle.std.proofs.Common.{◌≡◌, ℕ, Bool, true, false, List, [], ◌�
 use Rattle.std.specs.Prelude.{◌↔◌, if◌then◌else◌, ◌&&◌, ◌||◌, nat_lt}
 use Rattle.rd_base.specs.Results.{◌>>=◌}
 use Rattle.rv_text.specs.Characters.{is_blank, begins, skip, is_empty, is_name}
-use Rattle.rv_text.specs.Numbers.{number_in, register_in}
+use Rattle.rv_text.specs.Numbers.{number_of_text, register_of_text}
 use Rattle.rv_text.specs.Fields.{is_in, is_register, is_target}
-use Rattle.rv_text.specs.Faults.{number_of, earlier}
-use Rattle.rv_text.specs.Operands.{Distances, slots_of, field_of, ranged, written, distant, registered, registered_in, operand_in, both, after_slot, or_other_form, operands_in, operands_of, has_none, next_operand, after_operand}
+use Rattle.rv_text.specs.Faults.{number_of_kind, earlier}
+use Rattle.rv_text.specs.Operands.{Distances, slots_of, field_of, ranged, ranged_if_read, ranged_if_defined, registered, registered_in, operand_in, both, after_slot, or_other_form, operands_in, operands_of, has_none, next_operand, after_operand}
 use Rattle.rv_text.specs.Rows.{row_named, word_by}
 use Rattle.rv_text.specs.Lines.{first_word, after_first_word, word_of_row, word_of_statement, word_in}
 use Rattle.rv_text.specs.Unknown.{HasUnknownMnemonic}
@@ -42,13 +42,13 @@ known-form A = known-err A OtherForm (λ e. absurd cc)
 known-ranged : (f : Field) (z : ℤ) → Known (ranged f z)
 known-ranged f z = known-either (is_in f z) (Ok z) (Err OutOfRange) (known-ok z) (known-err _ OutOfRange (λ e. absurd cc))
 
-known-written : (f : Field) (o : Option ℤ) → Known (written f o)
-known-written f (Some z) = known-ranged f z
-known-written f None = known-form _
+known-ranged_if_read : (f : Field) (o : Option ℤ) → Known (ranged_if_read f o)
+known-ranged_if_read f (Some z) = known-ranged f z
+known-ranged_if_read f None = known-form _
 
-known-distant : (f : Field) (o : Option ℤ) → Known (distant f o)
-known-distant f (Some z) = known-ranged f z
-known-distant f None = known-err _ Undefined (λ e. absurd cc)
+known-ranged_if_defined : (f : Field) (o : Option ℤ) → Known (ranged_if_defined f o)
+known-ranged_if_defined f (Some z) = known-ranged f z
+known-ranged_if_defined f None = known-err _ Undefined (λ e. absurd cc)
 
 known-registered : (o : Option ℤ) → Known (registered o)
 known-registered (Some z) = known-ok z
@@ -56,8 +56,8 @@ known-registered None = known-err _ NoRegister (λ e. absurd cc)
 
 known-operand : (d : Distances) (f : Field) (text : List ℕ) → Known (operand_in d f text)
 known-operand d f text =
-    known-either (is_register f) (registered_in text) _ (known-either (is_name text) (registered (register_in text)) (Err OtherForm) (known-registered (register_in text)) (known-form _))
-    (known-either (is_target f && is_name text) (distant f (d text)) (written f (number_in text)) (known-distant f (d text)) (known-written f (number_in text)))
+    known-either (is_register f) (registered_in text) _ (known-either (is_name text) (registered (register_of_text text)) (Err OtherForm) (known-registered (register_of_text text)) (known-form _))
+    (known-either (is_target f && is_name text) (ranged_if_defined f (d text)) (ranged_if_read f (number_of_text text)) (known-ranged_if_defined f (d text)) (known-ranged_if_read f (number_of_text text)))
 
 known-earlier : (b : Bool) (j k : FaultKind) → (j ≡ UnknownMnemonic → ⊥) → (k ≡ UnknownMnemonic → ⊥) → (if b then k else j) ≡ UnknownMnemonic → ⊥
 known-earlier true j k h i = i
@@ -67,7 +67,7 @@ known-both : (r : Result ℤ FaultKind) (rs : Result (List ℤ) FaultKind) → K
 known-both (Ok z) (Ok zs) h i = known-ok (z ∷ zs)
 known-both (Ok z) (Err k) h i = known-err _ k (known-kind _ k i)
 known-both (Err j) (Ok zs) h i = known-err _ j (known-kind _ j h)
-known-both (Err j) (Err k) h i = known-err _ (earlier j k) (known-earlier (nat_lt (number_of k) (number_of j)) j k (known-kind _ j h) (known-kind _ k i))
+known-both (Err j) (Err k) h i = known-err _ (earlier j k) (known-earlier (nat_lt (number_of_kind k) (number_of_kind j)) j k (known-kind _ j h) (known-kind _ k i))
 
 known-behind : (d : Distances) (slots : List Slot) (o : Option (List ℕ)) → ((text : List ℕ) → Known (operands_in d slots text)) → Known (or_other_form (option_map (λ rest. operands_in d slots rest) o))
 known-behind d slots (Some text) h = h text

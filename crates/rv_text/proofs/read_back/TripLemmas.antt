@@ -1,4 +1,4 @@
--- What is written in slots is read back by them: one induction over the slots, for every form.
+-- What is ranged_if_read in slots is read back by them: one induction over the slots, for every form.
 use Rattle.std.proofs.Common.{◌≡◌, ℕ, ◌^◌, ◌<◌, true, false, List, [], ◌∷◌, ◌++◌, refl, ap, ◌∙◌, sym, arith, ℤ, pos, negsuc, Option, option_map, unsigned_abs, Result, Ok, Err}
 use Rattle.std.proofs.lemmas.Bool.{false≢true, and_parts}
 use Rattle.std.proofs.lemmas.Bool.Decides.{nat_tests}
@@ -6,9 +6,9 @@ use Rattle.std.proofs.lemmas.Int.{ints}
 use Rattle.std.specs.Prelude.{decimal, if◌then◌else◌}
 use Rattle.std.specs.Fmt.{signed_decimal}
 use Rattle.rv_text.specs.Characters.{is_of_operand, run, behind, skip, every, begins, is_name}
-use Rattle.rv_text.specs.Numbers.{number_in, register_in}
+use Rattle.rv_text.specs.Numbers.{number_of_text, register_of_text}
 use Rattle.rv_text.specs.Fields.{within, is_in}
-use Rattle.rv_text.specs.Operands.{Distances, field_of, ranged, written, registered, operand_in, operands_in, both, next_operand, after_operand, after_slot, after_mark, or_other_form, operand_text, mark_text, operands_text}
+use Rattle.rv_text.specs.Operands.{Distances, field_of, ranged, ranged_if_read, registered, operand_in, operands_in, both, next_operand, after_operand, after_slot, after_mark, or_other_form, operand_text, mark_text, operands_text}
 use Rattle.rv_text.specs.declared.field.Field.{Field}
 use Rattle.rv_text.specs.declared.field.Field.TheVariants.{Rd, Rs1, Rs2, Immediate, Shift, StoreOffset, BranchTarget, JumpTarget, Upper, Word}
 use Rattle.rv_text.specs.declared.form.Mark.{Mark}
@@ -47,17 +47,17 @@ below-32 n h = grind (arith, nat_tests, ints)
 in-range-read : (f : Field) (z : ℤ) → is_in f z ≡ true → ranged f z ≡ Ok z
 in-range-read f z h = rw h refl
 
-number-read : (f : Field) (z : ℤ) → is_in f z ≡ true → written f (number_in (signed_decimal z)) ≡ Ok z
-number-read f z h = let s = small f z h in ap (written f) (number-signed z (omega arith)) ∙ in-range-read f z h
+number-read : (f : Field) (z : ℤ) → is_in f z ≡ true → ranged_if_read f (number_of_text (signed_decimal z)) ≡ Ok z
+number-read f z h = let s = small f z h in ap (ranged_if_read f) (number-signed z (omega arith)) ∙ in-range-read f z h
 
-decimal-reads : (f : Field) (z : ℤ) → is_in f z ≡ true → ((d : Distances) → operand_in d f (signed_decimal z) ≡ written f (number_in (signed_decimal z))) → Reads f z (signed_decimal z)
+decimal-reads : (f : Field) (z : ℤ) → is_in f z ≡ true → ((d : Distances) → operand_in d f (signed_decimal z) ≡ ranged_if_read f (number_of_text (signed_decimal z))) → Reads f z (signed_decimal z)
 decimal-reads f z h is = record {
   is_run = signed-operand z (small f z h);
   is_there = signed-first z (small f z h);
   is_read = λ d. is d ∙ number-read f z h;
 }
 
-register-reads : (f : Field) (n : ℕ) → n < 32 → ((d : Distances) → operand_in d f (120 ∷ decimal n) ≡ (if is_name (120 ∷ decimal n) then registered (register_in (120 ∷ decimal n)) else Err OtherForm)) → Reads f (pos n) (120 ∷ decimal n)
+register-reads : (f : Field) (n : ℕ) → n < 32 → ((d : Distances) → operand_in d f (120 ∷ decimal n) ≡ (if is_name (120 ∷ decimal n) then registered (register_of_text (120 ∷ decimal n)) else Err OtherForm)) → Reads f (pos n) (120 ∷ decimal n)
 register-reads f n h is = record {
   is_run = digits-operand (decimal n) (decimal-digits n (omega arith));
   is_there = refl;
@@ -80,7 +80,7 @@ reads Upper z h = decimal-reads Upper z h (λ d. refl)
 reads Word (pos n) h = record {
   is_run = hex-digits_operand 8 n;
   is_there = refl;
-  is_read = λ d. ap (λ o. written Word (option_map pos o)) (hex-in_digits n (small Word (pos n) h)) ∙ in-range-read Word (pos n) h;
+  is_read = λ d. ap (λ o. ranged_if_read Word (option_map pos o)) (hex-in_digits n (small Word (pos n) h)) ∙ in-range-read Word (pos n) h;
 }
 reads Word (negsuc n) h = elim (false≢true h) [ ]
 

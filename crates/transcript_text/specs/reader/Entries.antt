@@ -15,7 +15,7 @@ use Rattle.transcript_text.specs.declared.reader.entries.Entry.{Entry}
 use Rattle.transcript_text.specs.declared.reader.entries.Entry.TheVariants.{Move, Verdict}
 use Rattle.transcript_text.specs.declared.reader.entries.HeadNumbers.{HeadNumbers}
 use Rattle.transcript_text.specs.reader.TextLines.{cut_at}
-use Rattle.transcript_text.specs.reader.Fields.{Read, behind_word, skip_word, small_number_at, number_after, some_bytes_in_hex, digest_in_hex, answer_in_hex, name_at}
+use Rattle.transcript_text.specs.reader.Fields.{ReadField, behind_word, skip_word, small_number_at, number_after, some_bytes_in_hex, digest_in_hex, answer_in_hex, name_at}
 
 -- THE HEAD: `refereed provers M bound N patience P version V fan F digest NAME start HEX`
 unfoldable pub head_in : List ℕ → Result HeadNumbers LineFault
@@ -61,19 +61,19 @@ move_in bytes = do
 abbrev pub coded : (ℕ → Status) → ℕ × List ℕ → Result (Status × List ℕ) LineFault
 coded status code = Ok (status code.0, code.1)
 
-abbrev pub trapped_or_not : Option (List ℕ) → Read Status
+abbrev pub trapped_or_not : Option (List ℕ) → ReadField Status
 trapped_or_not (Some code) = small_number_at code >>= coded Trapped
 trapped_or_not None = Err NoForm
 
-abbrev pub exited_or_not : List ℕ → Option (List ℕ) → Read Status
+abbrev pub exited_or_not : List ℕ → Option (List ℕ) → ReadField Status
 exited_or_not bytes (Some code) = small_number_at code >>= coded Exited
 exited_or_not bytes None = trapped_or_not (behind_word (codes "trapped ") bytes)
 
-abbrev pub running_or_not : List ℕ → Option (List ℕ) → Read Status
+abbrev pub running_or_not : List ℕ → Option (List ℕ) → ReadField Status
 running_or_not bytes (Some rest) = Ok (Running, rest)
 running_or_not bytes None = exited_or_not bytes (behind_word (codes "exited ") bytes)
 
-unfoldable pub status_at : List ℕ → Read Status
+unfoldable pub status_at : List ℕ → ReadField Status
 status_at bytes = running_or_not bytes (behind_word (codes "running") bytes)
 
 unfoldable pub output_in : List ℕ → Result (List ℕ) LineFault

@@ -12,8 +12,8 @@ use Rattle.transcript_text.specs.declared.reader.fault.LineFault.{LineFault}
 use Rattle.transcript_text.specs.declared.reader.fault.LineFault.TheVariants.{NoForm}
 
 -- a field, and the bytes behind it, or no form
-abbrev pub Read : Type 0 → Type 0
-Read A = Result (A × List ℕ) LineFault
+abbrev pub ReadField : Type 0 → Type 0
+ReadField A = Result (A × List ℕ) LineFault
 
 -- the bytes behind a word, if they begin with it
 abbrev pub behind_word : List ℕ → List ℕ → Option (List ℕ)
@@ -39,18 +39,18 @@ abbrev pub digits_at : ℕ → List ℕ → ℕ × List ℕ
 digits_at n [] = (n, [])
 digits_at n (b ∷ bs) = if is_digit b then digits_at (with_digit n b) bs else (n, b ∷ bs)
 
-unfoldable pub decimal_at : List ℕ → Read ℕ
+unfoldable pub decimal_at : List ℕ → ReadField ℕ
 decimal_at [] = Err NoForm
 decimal_at (b ∷ bs) = if b == 48 then Ok (0, bs) else if is_digit b then Ok (digits_at (b - 48) bs) else Err NoForm
 
 -- a number of at most 32 bits
-unfoldable pub small_number_at : List ℕ → Read ℕ
+unfoldable pub small_number_at : List ℕ → ReadField ℕ
 small_number_at bytes = do
   n ← decimal_at bytes
   if nat_lt n.0 4294967296 then Ok n else Err NoForm
 
 -- a number behind a word
-unfoldable pub number_after : List ℕ → List ℕ → Read ℕ
+unfoldable pub number_after : List ℕ → List ℕ → ReadField ℕ
 number_after word bytes = skip_word word bytes >>= decimal_at
 
 -- HEXADECIMAL DIGITS of lower case, in pairs, to the end of the line
@@ -90,14 +90,14 @@ answer_in_hex digits = do
 
 -- THE NAME OF A DIGEST
 
-abbrev pub name_or : DigestName → Option (List ℕ) → Read DigestName → Read DigestName
+abbrev pub name_or : DigestName → Option (List ℕ) → ReadField DigestName → ReadField DigestName
 name_or d (Some rest) others = Ok (d, rest)
 name_or d None others = others
 
 -- the first of these with whose name the bytes begin
-abbrev pub name_among : List DigestName → List ℕ → Read DigestName
+abbrev pub name_among : List DigestName → List ℕ → ReadField DigestName
 name_among [] bytes = Err NoForm
 name_among (d ∷ ds) bytes = name_or d (behind_word (digest_text d) bytes) (name_among ds bytes)
 
-unfoldable pub name_at : List ℕ → Read DigestName
+unfoldable pub name_at : List ℕ → ReadField DigestName
 name_at bytes = name_among digest_names bytes

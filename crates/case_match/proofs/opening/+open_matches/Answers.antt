@@ -2,7 +2,7 @@ use Rattle.std.proofs.Common.{rules, All, map, [], ◌∷◌, ◌∙◌, sym, ap
 use Rattle.rv_step.specs.State.{state_of}
 use Rattle.case_reader.specs.Case.{data_of}
 use Rattle.case_match.specs.declared.opening.LoadedCase.{LoadedCase}
-use Rattle.case_match.specs.Openings.{IsFresh, opening_of}
+use Rattle.case_match.specs.Openings.{IsFresh, opening_of_loaded}
 use Rattle.case_match.proofs.TaskLemmas.{all_first, last-all, one-more-empty, one-more-opened, one-more-said, said-by-book}
 use Rattle.case_match.proofs.opening.+open_matches.Goals as goal
 
@@ -19,9 +19,9 @@ open_match-requires-clause-fresh g t c =
 
 pub returns-clause-openings : goal.returns-clause-openings
 returns-clause-openings g t c =
-    one-more-opened (opening_of g.D.Digester.digest_of) c.in_ok-books.field-0.books.items c.push.new.self.items c.in_ok-book.field-0.book c.pop.new.self.items c.in-Some.last c.in_ok-push.ensures.items
+    one-more-opened (opening_of_loaded g.D.Digester.digest_of) c.in_ok-books.field-0.books.items c.push.new.self.items c.in_ok-book.field-0.book c.pop.new.self.items c.in-Some.last c.in_ok-push.ensures.items
     c.in_ok-book.ensures.opening c.in_ok-books.ensures.openings
-    ∙ ap (map (opening_of g.D.Digester.digest_of)) (sym c.in-Some.ensures.items)
+    ∙ ap (map (opening_of_loaded g.D.Digester.digest_of)) (sym c.in-Some.ensures.items)
 
 pub returns-clause-empty : goal.returns-clause-empty
 returns-clause-empty g t c =

@@ -1,14 +1,14 @@
 use Rattle.std.proofs.Common.{◌≡◌, ℕ, ◌-◌, ◌^◌, ◌<◌, true}
-use Rattle.mem_plain.specs.Contents.{IsUsed}
-use Rattle.checkpoint_run.specs.Versions.{is_among, AreBelow}
+use Rattle.mem_plain.specs.Contents.{IsUsed, has_page}
+use Rattle.checkpoint_run.specs.Versions.{AreBelow}
 use Rattle.checkpoint_run.proofs.checkpoint.used_pages.Given as goal
 
 -- each used page below the number is among the pages, and each of them is used
 abbrev pub invariant-pages : goal.invariant-pages
 invariant-pages l = record {
   below : AreBelow l.pages.keys;
-  used : (p : ℕ) → p < l.from → IsUsed l.mem p → is_among l.pages.keys p ≡ true;
-  only : (p : ℕ) → is_among l.pages.keys p ≡ true → IsUsed l.mem p;
+  used : (p : ℕ) → p < l.from → IsUsed l.mem p → has_page l.pages.keys p ≡ true;
+  only : (p : ℕ) → has_page l.pages.keys p ≡ true → IsUsed l.mem p;
 }
 
 abbrev pub decreases-pages : goal.decreases-pages

@@ -2,8 +2,9 @@ use Rattle.std.proofs.Common.{◌≡◌, ◌<◌, ℕ, [], ◌∷◌, ◌++◌, 
 use Rattle.std.specs.List.{AllZip}
 use Rattle.std.proofs.lemmas.Bool.{cases_eq}
 use Rattle.rd_base.specs.declared.memory.Memory.{Memory}
+use Rattle.mem_plain.specs.Contents.{has_page}
 use Rattle.mem_tree.specs.Page.{AreEmpty, IsMadeTree, IsPageOf, IsPageTree}
-use Rattle.mem_tree.specs.Tree.{kept_of, page_at, is_among, upper_at, IsRoot}
+use Rattle.mem_tree.specs.Tree.{kept_of, page_at, upper_at, IsRoot}
 use Rattle.mem_tree.specs.Levels.{IsJoinedOver}
 use Rattle.mem_tree.proofs.StaleLemmas.{over-first, over-last, over-more, among-one}
 use Rattle.mem_tree.specs.declared.kept.PageTree.{PageTree}
@@ -26,7 +27,7 @@ pages-init g c =
       made = λ p. subst (IsMadeTree digest) (sym (none p)) tt;
       joined = subst (λ xs. IsJoinedOver digest (kept_of nodes) xs []) (sym c.new-placed.ensures.items)
           (over-first digest (kept_of nodes) [] (nothing-joined digest (kept_of nodes) c.no_nodes-nodes.ensures.pages c.no_nodes-nodes.ensures.upper c.no_nodes-nodes.ensures.empty));
-      low = λ p is. absurd (true≢false (sym is ∙ ap (λ xs. is_among xs p) c.new-placed.ensures.items));
+      low = λ p is. absurd (true≢false (sym is ∙ ap (λ xs. has_page xs p) c.new-placed.ensures.items));
       are = λ p fresh. subst (λ (o : Option PageTree). IsPageOf o m p) (sym (none p)) (unused-page m p (λ used. true≢false (sym (c.in_ok-left.ensures.used p used) ∙ fresh)));
     }
 
@@ -59,17 +60,17 @@ pages-preserved g c =
       low = λ p is. ⊎_elim
           (λ same. subst (λ q. q < 1048576) (sym same) (all-last (λ p. p < 1048576) left page (subst (λ xs. All (λ p. p < 1048576) xs) popped c.pages.invariant.pages)))
           (λ held. c.pages.invariant.low p held)
-          (among-one c.pages.placed.items page p (subst (λ xs. is_among xs p ≡ true) c.in_ok-push.ensures.items is));
+          (among-one c.pages.placed.items page p (subst (λ xs. has_page xs p ≡ true) c.in_ok-push.ensures.items is));
       are = λ p fresh. ⊎_elim
           (λ same. subst (λ q. IsPageOf (page_at (kept_of c.set_page.new.self) q) m q) (sym same) (subst (λ (o : Option PageTree). IsPageOf o m page) (sym c.in_ok-set_page.ensures.here) tree.page_of))
           (λ other. subst (λ (o : Option PageTree). IsPageOf o m p) (sym (c.set_page.ensures.elsewhere p other))
-          (c.pages.invariant.are p (subst (λ l. is_among l p ≡ false) (sym popped) (among-but_last left page p other fresh))))
+          (c.pages.invariant.are p (subst (λ l. has_page l p ≡ false) (sym popped) (among-but_last left page p other fresh))))
           (cases_eq p page);
     }
 
 pub returns-clause-pages : goal.returns-clause-pages
 returns-clause-pages g c = λ p. subst (λ (o : Option PageTree). IsPageOf o c.args.mem.now p) (sym (page-same c.raise_all.new.self c.pages.nodes c.raise_all.ensures.pages p))
-    (c.pages.invariant.are p (ap (λ xs. is_among xs p) (no-items c.pages.left.items (omega (arith, c.pages.left.ok.0, c.in_default.ensures.cases.0)))))
+    (c.pages.invariant.are p (ap (λ xs. has_page xs p) (no-items c.pages.left.items (omega (arith, c.pages.left.ok.0, c.in_default.ensures.cases.0)))))
 
 pub returns-clause-made : goal.returns-clause-made
 returns-clause-made g c = λ p. subst (IsMadeTree g.D.Digester.digest_of) (sym (page-same c.raise_all.new.self c.pages.nodes c.raise_all.ensures.pages p)) (c.pages.invariant.made p)

@@ -1,7 +1,8 @@
 use Rattle.std.proofs.Common.{◌≡◌, ◌<◌, ◌^◌, ℕ, [], true, false, All, length, IfOk}
 use Rattle.std.specs.List.{AllZip}
+use Rattle.mem_plain.specs.Contents.{has_page}
 use Rattle.mem_tree.specs.Page.{AreEmpty, IsPageOf, IsPageTree}
-use Rattle.mem_tree.specs.Tree.{kept_of, page_at, AllMade, is_among}
+use Rattle.mem_tree.specs.Tree.{kept_of, page_at, AllMade}
 use Rattle.mem_tree.specs.Levels.{IsJoinedOver}
 use Rattle.mem_tree.proofs.building.nodes_in.Given as goal
 
@@ -12,8 +13,8 @@ invariant-pages g l = record {
   empty : AreEmpty g.D.Digester.digest_of l.nodes.empties;
   made : AllMade g.D.Digester.digest_of (kept_of l.nodes);
   joined : IsJoinedOver g.D.Digester.digest_of (kept_of l.nodes) l.placed.items [];
-  low : (p : ℕ) → is_among l.placed.items p ≡ true → p < 2 ^ 20;
-  are : (p : ℕ) → is_among l.left.items p ≡ false → IsPageOf (page_at (kept_of l.nodes) p) l.mem p;
+  low : (p : ℕ) → has_page l.placed.items p ≡ true → p < 2 ^ 20;
+  are : (p : ℕ) → has_page l.left.items p ≡ false → IsPageOf (page_at (kept_of l.nodes) p) l.mem p;
 }
 
 abbrev pub decreases-pages : goal.decreases-pages

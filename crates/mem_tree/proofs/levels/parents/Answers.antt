@@ -1,6 +1,6 @@
 use Rattle.std.proofs.Common.{◌≡◌, ◌/◌, ◌≤◌, ℕ, length, take, true, get_or, ap, ◌∙◌, sym, subst, arith}
 use Rattle.std.proofs.lemmas.List.{take_all}
-use Rattle.mem_tree.specs.Tree.{is_among}
+use Rattle.mem_plain.specs.Contents.{has_page}
 use Rattle.mem_tree.specs.Costs.{parents}
 use Rattle.mem_tree.specs.Levels.{others_before}
 use Rattle.mem_tree.proofs.ParentLemmas.{parents-more, parents-above, parents-below, parents-few}
@@ -18,10 +18,10 @@ pub returns-clause-exactly : goal.returns-clause-exactly
 returns-clause-exactly c = all c
 
 pub returns-clause-above : goal.returns-clause-above
-returns-clause-above c = λ q is. subst (λ ps. is_among ps (q / 2) ≡ true) (sym (all c)) (parents-above c.args.places.now q is)
+returns-clause-above c = λ q is. subst (λ ps. has_page ps (q / 2) ≡ true) (sym (all c)) (parents-above c.args.places.now q is)
 
 pub returns-clause-below : goal.returns-clause-below
-returns-clause-below c = λ h is. parents-below c.args.places.now h (subst (λ ps. is_among ps h ≡ true) (all c) is)
+returns-clause-below c = λ h is. parents-below c.args.places.now h (subst (λ ps. has_page ps h ≡ true) (all c) is)
 
 pub returns-clause-few : goal.returns-clause-few
 returns-clause-few c = subst (λ ps. length ps ≤ length c.args.places.now) (sym (all c)) (parents-few c.args.places.now)

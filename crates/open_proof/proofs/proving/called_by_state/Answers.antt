@@ -7,7 +7,7 @@ use Rattle.rv_step.specs.Alike.{named_at}
 use Rattle.rv_step.specs.State.{State, state_of}
 use Rattle.open_proof.specs.Facts.{byte_needed}
 use Rattle.open_proof.specs.OpenedChunk.{fetch_of_state}
-use Rattle.open_proof.specs.Shown.{operand_of_state, tree_of}
+use Rattle.open_proof.specs.Shown.{operand_of_state, tree_of_state}
 use Rattle.open_proof.specs.declared.facts.HeldInput.{HeldInput}
 use Rattle.open_proof.proofs.WholeLemmas.{byte-offered, byte-within}
 use Rattle.open_proof.proofs.proving.called_by_state.Goals as goal
@@ -26,7 +26,7 @@ returns-clause-input g c =
     let digest = g.D.Digester.digest_of in
     c.called_of.ensures.input
     ∙ (ap (λ (t : Option HeldInput). byte_needed t (next_need (seen_of (state_of c.machine.result.now)))) c.tree_of.ensures.value
-    ∙ ap (λ (s : State). byte_needed (tree_of digest c.args.committed.now) (next_need (seen_of s))) c.machine.ensures.state)
+    ∙ ap (λ (s : State). byte_needed (tree_of_state digest c.args.committed.now) (next_need (seen_of s))) c.machine.ensures.state)
 
 pub returns-clause-inside : goal.returns-clause-inside
 returns-clause-inside g c =

@@ -5,7 +5,7 @@ use Rattle.board_book.specs.Tasks.{openings, sayings}
 use Rattle.dispute_board.specs.OneHistory.{log_of_journal}
 use Rattle.posters.specs.declared.serving.Poster.{Poster}
 use Rattle.std.proofs.lemmas.List.{length-map}
-use Rattle.posters.specs.Serving.{places_from, kept_of, said_by}
+use Rattle.posters.specs.Serving.{places_from, kept_of, saying_of}
 use Rattle.posters.proofs.Numbering.{all_by_number, as_many}
 use Rattle.std.proofs.lemmas.Option.{same_Some}
 use Rattle.posters.proofs.Seats.{log_of-turns_of}
@@ -16,7 +16,7 @@ pub serve_all-requires-clause-ready : goal.serve_all-requires-clause-ready
 serve_all-requires-clause-ready g c κs within =
     let heads = openings c.args.books.books in let seats = c.seat_posters.ensures.seats in let same = c.as_mut_slice.ensures.value in
     let opening = ap (λ k. k.head) c.in_ok-board.ensures in (
-      said_by g.P.Provers.says heads,
+      saying_of g.P.Provers.says heads,
       (
           λ k d below.
           let seat = subst (λ (xs : List (Poster g.row.J.Denot g.row.P.Denot g.row.J-Names.Denot g.row.P-Names.Denot)). ((get_or xs k d).seat.lock ≡ c.in_ok-board.board) × ((get_or xs k d).seat.head ≡ c.in_ok-board.seat.head)) (sym same)

@@ -1,6 +1,6 @@
 use Rattle.std.proofs.Common.{◌≡◌, ◌+◌, ◌-◌, ◌<◌, ◌≤◌, length, set, arith, ap, ◌∙◌, Ok}
 use Rattle.std.proofs.lemmas.List.{take_more_set, take_all, length-set}
-use Rattle.proof_wire.specs.Reading.{word_at, registers_at}
+use Rattle.proof_wire.specs.Reading.{word_ahead, registers_ahead}
 use Rattle.proof_wire.proofs.EachLemmas.{goes_on, ends, with_register-above_zero}
 use Rattle.proof_wire.proofs.fields.read_registers.Goals as goal
 
@@ -13,12 +13,12 @@ loop-reg-preserved c =
       count = ap length written ∙ length-set _ _ _ ∙ c.loop-reg.invariant.count;
       room = omega arith;
       so_far = rw (written, take_more_set)
-          (goes_on word_at _ (32 - c.loop-reg.reg) (32 - (c.loop-reg.reg + 1)) c.loop-reg.rest.now _ _ _ (omega arith) c.read_word-value.ensures.read c.loop-reg.invariant.so_far);
+          (goes_on word_ahead _ (32 - c.loop-reg.reg) (32 - (c.loop-reg.reg + 1)) c.loop-reg.rest.now _ _ _ (omega arith) c.read_word-value.ensures.read c.loop-reg.invariant.so_far);
     }
 
 pub returns-clause-read : goal.returns-clause-read
-unfolding registers_at
+unfolding registers_ahead
 returns-clause-read c =
     let long : length c.loop-reg.regs ≤ c.loop-reg.reg = omega arith in
-    ends word_at _ (32 - c.loop-reg.reg) c.loop-reg.rest.now _ (omega arith) c.loop-reg.invariant.so_far
+    ends word_ahead _ (32 - c.loop-reg.reg) c.loop-reg.rest.now _ (omega arith) c.loop-reg.invariant.so_far
     ∙ ap (λ regs. Ok (regs, c.loop-reg.rest.now)) (take_all _ _ long)

@@ -1,7 +1,7 @@
 use Rattle.std.proofs.Common.{◌∙◌, ◌+◌, ◌++◌, [], sym, ap, arith, length, Ok, Err}
 use Rattle.rd_base.specs.Results.{map_fault}
 use Rattle.rv_text.specs.Characters.{is_of_line}
-use Rattle.rv_text.specs.Assembly.{also}
+use Rattle.rv_text.specs.Assembly.{with_word}
 use Rattle.rv_text.specs.Places.{places_of}
 use Rattle.rv_text.specs.declared.fault.AsmError.TheVariants as errors
 use Rattle.rv_text.proofs.PassLemmas.{word-step, word-stops, word-ends, word-kept, left-length, behind-length}
@@ -15,7 +15,7 @@ returns-in-Err c =
 pub returns-in-empty : goal.returns-in-empty
 returns-in-empty c =
     let step = word-step c.lines.rest.now c.split_run.result.0.now c.split_run.result.1.now c.lines.number (places_of c.args.names.now) c.lines.here c.lines.words.items c.in-Ok.word _ c.split_run.ensures.run c.split_run.ensures.behind c.lines.invariant.same (sym c.in-Ok.ensures) in
-    let ends = word-ends c.split_run.result.1.now (c.lines.number + 1) (places_of c.args.names.now) _ (c.lines.words.items ++ also c.in-Ok.word []) _ c.in-empty.len_below step in
+    let ends = word-ends c.split_run.result.1.now (c.lines.number + 1) (places_of c.args.names.now) _ (c.lines.words.items ++ with_word c.in-Ok.word []) _ c.in-empty.len_below step in
     ap (map_fault errors.Fault) ends ∙ ap (λ ws. Ok ws) (sym c.in_ok-add_word.ensures)
 
 pub lines-smaller : goal.lines-smaller

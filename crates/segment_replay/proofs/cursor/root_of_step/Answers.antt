@@ -3,7 +3,7 @@ use Rattle.rd_base.specs.Scheme.{scheme_of}
 use Rattle.rv_step.specs.State.{State}
 use Rattle.state_commit.specs.StateRoot.{registers_digest}
 use Rattle.mem_tree.specs.InputTree.{input_root}
-use Rattle.segment_replay.specs.Roots.{own_root}
+use Rattle.segment_replay.specs.Roots.{root_of_state}
 use Rattle.segment_replay.proofs.cursor.root_of_step.Goals as goal
 
 pub root_of_parts-root-requires-clause-registers : goal.root_of_parts-root-requires-clause-registers
@@ -21,4 +21,4 @@ root_of_parts-root-requires-clause-input g c tree =
     c.args.replay.now.of_input (ap (λ (v : ℕ). (scheme_of v).input) (sym kept) ∙ tree) ∙ ap (input_root g.D.Digester.digest_of) (sym same)
 
 pub returns-clause-root : goal.returns-clause-root
-returns-clause-root g c = c.root_of_parts-root.ensures ∙ ap (own_root g.D.Digester.digest_of) (c.in_ok-cursor.ensures.machine.state ∙ c.in_ok-cursor.ensures.step)
+returns-clause-root g c = c.root_of_parts-root.ensures ∙ ap (root_of_state g.D.Digester.digest_of) (c.in_ok-cursor.ensures.machine.state ∙ c.in_ok-cursor.ensures.step)

@@ -1,18 +1,18 @@
 use Rattle.std.proofs.Common.{◌≡◌, IfOk, map, sym, subst, arith}
 use Rattle.std.specs.Fork.{slice_chunk}
 use Rattle.segment_replay.specs.Roots.{root_at, digests}
-use Rattle.segment_replay.specs.Cursor.{IsKept}
+use Rattle.segment_replay.specs.Cursor.{IsWorkerOf}
 use Rattle.segment_replay.proofs.PieceLemmas.{of_each}
 use Rattle.segment_replay.proofs.replaying.replay_pieces.Goals as goal
 
 pub for_each_mut-requires-clause-accepts : goal.for_each_mut-requires-clause-accepts
 for_each_mut-requires-clause-accepts g c κs within i p below is =
-    (subst (IsKept g.D.Digester.digest_of c.args.replay.now.run.now) (sym is) (c.requires.kept i p.now below), search)
+    (subst (IsWorkerOf g.D.Digester.digest_of c.args.replay.now.run.now) (sym is) (c.requires.kept i p.now below), search)
 
 pub returns-clause-kept : goal.returns-clause-kept
 returns-clause-kept g c k d below =
     let e = (c.for_each_mut.ensures k d (omega arith)).1 in
-    subst (IsKept g.D.Digester.digest_of c.args.replay.now.run.now) e.left e.call.0
+    subst (IsWorkerOf g.D.Digester.digest_of c.args.replay.now.run.now) e.left e.call.0
 
 pub returns-clause-made : goal.returns-clause-made
 returns-clause-made g c =

@@ -2,7 +2,7 @@ use Rattle.std.proofs.Common.{◌≡◌, ℕ, ◌+◌, ◌≤◌, ◌*◌, ◌/�
 use Rattle.std.proofs.lemmas.List.{length-map, length-append}
 use Rattle.std.proofs.lemmas.List.Elements.{All-append, All-drop}
 use Rattle.segment_replay.specs.Roots.{root_at}
-use Rattle.segment_replay.specs.Cursor.{IsKept}
+use Rattle.segment_replay.specs.Cursor.{IsWorkerOf}
 use Rattle.segment_replay.proofs.PieceLemmas.{written_back, enough_workers}
 use Rattle.segment_replay.proofs.replaying.roots_by.Goals as goal
 
@@ -11,7 +11,7 @@ returns-clause-kept g c =
     let busy = c.replay_pieces.new.workers in
     let idle = c.split_at_mut-busy.result.1.now in
     let all = busy ++ idle in
-    let kept = IsKept g.D.Digester.digest_of c.args.replay.now.run.now in
+    let kept = IsWorkerOf g.D.Digester.digest_of c.args.replay.now.run.now in
     let same = ap length c.deref_mut.ensures.value in
     let parts = ap length c.split_at_mut-busy.ensures.value ∙ length-append c.split_at_mut-busy.result.0.now idle in
     let count = length-append busy idle in

@@ -1,8 +1,8 @@
 use Rattle.std.proofs.Common.{◌≡◌, ◌≢◌, ℕ, ◌/◌, Result, Ok, Err, Some, true≢false, sym, ap, ◌∙◌, subst}
 use Rattle.std.specs.Result.{OnOk}
 use Rattle.rd_base.specs.declared.memory.Memory.{Memory}
-use Rattle.mem_plain.specs.Contents.{Contents, byte_at}
-use Rattle.mem_tree.specs.Tree.{Tree, IsTreeOf, SameBut, is_among}
+use Rattle.mem_plain.specs.Contents.{Contents, byte_at, has_page}
+use Rattle.mem_tree.specs.Tree.{Tree, IsTreeOf, SameBut}
 use Rattle.state_commit.proofs.StateLemmas.{same-named}
 use Rattle.state_commit.proofs.committed.follow.Goals as goal
 use Rattle.state_commit.proofs.committed.follow.Goals.{in-Some+in_ok-touch, in_default}
@@ -21,7 +21,7 @@ returns-clause-tree g c =
       | in-Some+in_ok-touch w ↦ (
         subst (λ (x : Tree). IsTreeOf digest x m) (sym w.tree-is) (w.touch.ensures.tree m tree),
         λ p fresh a at. same a (λ is. true≢false (sym w.in_ok-touch.ensures.touched
-            ∙ (ap (λ (x : Tree). is_among x.touched w.in-Some.page) (sym w.tree-is) ∙ (ap (is_among t.touched) (same-named c.args.page w.in-Some.page (a / 4096) w.in-Some.is is ∙ at) ∙ fresh)))),
+            ∙ (ap (λ (x : Tree). has_page x.touched w.in-Some.page) (sym w.tree-is) ∙ (ap (has_page t.touched) (same-named c.args.page w.in-Some.page (a / 4096) w.in-Some.is is ∙ at) ∙ fresh)))),
       )
       | in_default w ↦ (
         subst (λ (x : Tree). IsTreeOf digest x m) (sym w.tree-is) tree,

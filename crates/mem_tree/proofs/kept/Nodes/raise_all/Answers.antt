@@ -1,7 +1,8 @@
 use Rattle.std.proofs.Common.{◌≡◌, ◌≢◌, inl, inr, ◌+◌, ◌*◌, ◌/◌, ◌^◌, ℕ, length, true, false, true≢false, refl, sym, ap, ◌∙◌, arith, ⊎_elim, subst}
 use Rattle.std.proofs.Math.Nat.{div-one}
 use Rattle.std.proofs.lemmas.Bool.{cases_eq, cases_Bool}
-use Rattle.mem_tree.specs.Tree.{kept_of, upper_at, is_among}
+use Rattle.mem_plain.specs.Contents.{has_page}
+use Rattle.mem_tree.specs.Tree.{kept_of, upper_at}
 use Rattle.mem_tree.specs.Levels.{IsJoinedFrom}
 use Rattle.mem_tree.specs.Costs.{ancestors, kept_above, kept_among, parents}
 use Rattle.mem_tree.proofs.JoinedLemmas.{page-same}
@@ -11,9 +12,9 @@ use Rattle.mem_tree.proofs.kept.Nodes.raise_all.Goals as goal
 
 pub returns-in_err-join_places-clause-elsewhere : goal.returns-in_err-join_places-clause-elsewhere
 returns-in_err-join_places-clause-elsewhere g c = λ n k apart.
-    c.join_places.ensures.elsewhere n k (⊎_elim (λ level. inl level) (λ none. inr (subst (λ xs. is_among xs k ≡ false) (sym c.deref-in-levels.ensures.value) none))
+    c.join_places.ensures.elsewhere n k (⊎_elim (λ level. inl level) (λ none. inr (subst (λ xs. has_page xs k ≡ false) (sym c.deref-in-levels.ensures.value) none))
     (apart-from c.args.pages.items c.in_ok-places.places.items (c.levels.above + 1) n k
-    (λ h is. let q = c.in_ok-places.ensures.below h is in below-next c.args.pages.items c.levels.above q.0 h (c.levels.invariant.below q.0 (subst (λ xs. is_among xs q.0 ≡ true) c.deref.ensures.value q.1)) q.2) apart))
+    (λ h is. let q = c.in_ok-places.ensures.below h is in below-next c.args.pages.items c.levels.above q.0 h (c.levels.invariant.below q.0 (subst (λ xs. has_page xs q.0 ≡ true) c.deref.ensures.value q.1)) q.2) apart))
     ∙ c.levels.invariant.elsewhere n k apart
 
 pub returns-in_err-join_places-clause-top : goal.returns-in_err-join_places-clause-top
@@ -30,20 +31,20 @@ levels-preserved g c =
     let value' = c.deref-in-levels.ensures.value in
     let before = kept_of c.levels.self in
     let after = kept_of c.join_places.new.self in
-    let below : (h : ℕ) → is_among places h ≡ true → (p : ℕ) × (is_among pages p ≡ true) × (p / 2 ^ (c.levels.above + 1) ≡ h) =
-    λ h is. let q = c.in_ok-places.ensures.below h is in below-next pages c.levels.above q.0 h (inv.below q.0 (subst (λ xs. is_among xs q.0 ≡ true) value q.1)) q.2 in
+    let below : (h : ℕ) → has_page places h ≡ true → (p : ℕ) × (has_page pages p ≡ true) × (p / 2 ^ (c.levels.above + 1) ≡ h) =
+    λ h is. let q = c.in_ok-places.ensures.below h is in below-next pages c.levels.above q.0 h (inv.below q.0 (subst (λ xs. has_page xs q.0 ≡ true) value q.1)) q.2 in
     let n = length pages in
     let are : places ≡ ancestors (c.levels.above + 1) pages = c.in_ok-places.ensures.exactly ∙ (ap parents (value ∙ inv.are) ∙ sym (ancestors-next c.levels.above pages)) in
     record {
-      low = λ h is. let q = c.in_ok-places.ensures.below h is in let less = inv.low q.0 (subst (λ xs. is_among xs q.0 ≡ true) value q.1) in omega (arith, less, q.2);
+      low = λ h is. let q = c.in_ok-places.ensures.below h is in let less = inv.low q.0 (subst (λ xs. has_page xs q.0 ≡ true) value q.1) in omega (arith, less, q.2);
       below = below;
       joined = λ first. joined-level digest before after c.levels.above c.levels.places.items places c.join_places.ensures.empties
           (page-same c.join_places.new.self c.levels.self c.join_places.ensures.pages) c.levels-test.true
-          (λ q is. c.in_ok-places.ensures.above q (subst (λ xs. is_among xs q ≡ true) (sym value) is))
-          (λ k is. c.in_ok-join_places.ensures.joined k (subst (λ xs. is_among xs k ≡ true) (sym value') is))
-          (λ i k apart. c.join_places.ensures.elsewhere i k (⊎_elim (λ level. inl level) (λ none. inr (subst (λ xs. is_among xs k ≡ false) (sym value') none)) apart))
+          (λ q is. c.in_ok-places.ensures.above q (subst (λ xs. has_page xs q ≡ true) (sym value) is))
+          (λ k is. c.in_ok-join_places.ensures.joined k (subst (λ xs. has_page xs k ≡ true) (sym value') is))
+          (λ i k apart. c.join_places.ensures.elsewhere i k (⊎_elim (λ level. inl level) (λ none. inr (subst (λ xs. has_page xs k ≡ false) (sym value') none)) apart))
           (inv.joined first);
-      elsewhere = λ n k apart. c.join_places.ensures.elsewhere n k (⊎_elim (λ level. inl level) (λ none. inr (subst (λ xs. is_among xs k ≡ false) (sym value') none)) (apart-from pages places (c.levels.above + 1) n k below apart))
+      elsewhere = λ n k apart. c.join_places.ensures.elsewhere n k (⊎_elim (λ level. inl level) (λ none. inr (subst (λ xs. has_page xs k ≡ false) (sym value') none)) (apart-from pages places (c.levels.above + 1) n k below apart))
           ∙ inv.elsewhere n k apart;
       top = λ n k high. c.join_places.ensures.elsewhere n k (inl (λ e. absurd (omega (arith, e, high, c.levels-test.true)))) ∙ inv.top n k high;
       pages = c.join_places.ensures.pages ∙ inv.pages;

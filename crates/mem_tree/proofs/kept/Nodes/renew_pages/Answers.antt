@@ -4,8 +4,9 @@ use Rattle.std.specs.List.Sorted.{IsStrictlySortedBy}
 use Rattle.std.proofs.lemmas.Bool.{cases_eq, cases_Bool}
 use Rattle.std.proofs.lemmas.Map.Keys.{sorted_tail}
 use Rattle.std.proofs.lemmas.List.{append_assoc, append-nil}
+use Rattle.mem_plain.specs.Contents.{has_page}
 use Rattle.mem_tree.specs.Page.{AreEmpty, IsPageOf}
-use Rattle.mem_tree.specs.Tree.{kept_of, page_at, IsJoinedBut, is_among}
+use Rattle.mem_tree.specs.Tree.{kept_of, page_at, IsJoinedBut}
 use Rattle.mem_tree.specs.Costs.{changed_chunks, has_changed, page_changes, page_digests, page_renewals, stale_pages}
 use Rattle.mem_tree.specs.Levels.{IsJoinedOver, as_number}
 use Rattle.mem_tree.specs.declared.kept.PageTree.{PageTree}
@@ -16,19 +17,19 @@ use Rattle.mem_tree.proofs.kept.Nodes.renew_pages.Goals as goal
 
 pub invariant_of-of : goal.invariant_of-of
 invariant_of-of g c =
-    record { below = c.requires.pages c.in-Some.page.now (c.pages.invariant.among c.in-Some.page.now (subst (λ l. is_among l c.in-Some.page.now ≡ true) (sym c.in-Some.ensures.steps) (among-head c.in-Some.page.now c.next.new.self))) }
+    record { below = c.requires.pages c.in-Some.page.now (c.pages.invariant.among c.in-Some.page.now (subst (λ l. has_page l c.in-Some.page.now ≡ true) (sym c.in-Some.ensures.steps) (among-head c.in-Some.page.now c.next.new.self))) }
 
 pub returns-in_err-is_stale-clause-others : goal.returns-in_err-is_stale-clause-others
 returns-in_err-is_stale-clause-others g c = λ p not.
     let page = c.in-Some.page.now in
-    let there = c.pages.invariant.among page (subst (λ l. is_among l page ≡ true) (sym c.in-Some.ensures.steps) (among-head page c.next.new.self)) in
-    c.renew_page.ensures.elsewhere p (λ e. true≢false (sym there ∙ (ap (is_among c.args.touched.now.pages.now.keys) (sym e) ∙ not))) ∙ c.pages.invariant.others p not
+    let there = c.pages.invariant.among page (subst (λ l. has_page l page ≡ true) (sym c.in-Some.ensures.steps) (among-head page c.next.new.self)) in
+    c.renew_page.ensures.elsewhere p (λ e. true≢false (sym there ∙ (ap (has_page c.args.touched.now.pages.now.keys) (sym e) ∙ not))) ∙ c.pages.invariant.others p not
 
 pub returns-in_err-is_stale-clause-joined : goal.returns-in_err-is_stale-clause-joined
 returns-in_err-is_stale-clause-joined g c =
     let digest = g.C.Counted.digest_of in
     let page = c.in-Some.page.now in
-    let there = c.pages.invariant.among page (subst (λ l. is_among l page ≡ true) (sym c.in-Some.ensures.steps) (among-head page c.next.new.self)) in
+    let there = c.pages.invariant.among page (subst (λ l. has_page l page ≡ true) (sym c.in-Some.ensures.steps) (among-head page c.next.new.self)) in
     let done = c.renew_page.ensures in
     stays-joined digest (kept_of c.pages.self) (kept_of c.renew_page.new.self) page done.empties done.elsewhere
     (aside digest (kept_of c.pages.self) (kept_of c.renew_page.new.self) page done.empties done.elsewhere done.upper) c.args.touched.now.pages.now.keys c.pages.invariant.joined there
@@ -40,7 +41,7 @@ returns-in_err-is_stale-clause-few_in_all g c = λ failed.
     let rest = c.next.new.self in
     let step = c.in-Some.ensures.steps in
     let first = kept_of c.args.self.now in
-    let was : page_at (kept_of c.pages.self) page ≡ page_at first page = c.pages.invariant.left page (subst (λ l. is_among l page ≡ true) (sym step) (among-head page rest)) in
+    let was : page_at (kept_of c.pages.self) page ≡ page_at first page = c.pages.invariant.left page (subst (λ l. has_page l page ≡ true) (sym step) (among-head page rest)) in
     let changes : changed_chunks first m c.pages.page-iterator ≡ page_changes (page_at first page) m page + changed_chunks first m rest = ap (changed_chunks first m) step in
     let changes' : page_changes (page_at (kept_of c.pages.self) page) m page ≡ page_changes (page_at first page) m page = ap (λ (o : Option PageTree). page_changes o m page) was in
     let so_far = c.pages.invariant.few failed in
@@ -50,14 +51,14 @@ returns-in_err-is_stale-clause-few_in_all g c = λ failed.
 pub returns-in_err-add_if-clause-others : goal.returns-in_err-add_if-clause-others
 returns-in_err-add_if-clause-others g c = λ p not.
     let page = c.in-Some.page.now in
-    let there = c.pages.invariant.among page (subst (λ l. is_among l page ≡ true) (sym c.in-Some.ensures.steps) (among-head page c.next.new.self)) in
-    c.renew_page.ensures.elsewhere p (λ e. true≢false (sym there ∙ (ap (is_among c.args.touched.now.pages.now.keys) (sym e) ∙ not))) ∙ c.pages.invariant.others p not
+    let there = c.pages.invariant.among page (subst (λ l. has_page l page ≡ true) (sym c.in-Some.ensures.steps) (among-head page c.next.new.self)) in
+    c.renew_page.ensures.elsewhere p (λ e. true≢false (sym there ∙ (ap (has_page c.args.touched.now.pages.now.keys) (sym e) ∙ not))) ∙ c.pages.invariant.others p not
 
 pub returns-in_err-add_if-clause-joined : goal.returns-in_err-add_if-clause-joined
 returns-in_err-add_if-clause-joined g c =
     let digest = g.C.Counted.digest_of in
     let page = c.in-Some.page.now in
-    let there = c.pages.invariant.among page (subst (λ l. is_among l page ≡ true) (sym c.in-Some.ensures.steps) (among-head page c.next.new.self)) in
+    let there = c.pages.invariant.among page (subst (λ l. has_page l page ≡ true) (sym c.in-Some.ensures.steps) (among-head page c.next.new.self)) in
     let done = c.renew_page.ensures in
     stays-joined digest (kept_of c.pages.self) (kept_of c.renew_page.new.self) page done.empties done.elsewhere
     (aside digest (kept_of c.pages.self) (kept_of c.renew_page.new.self) page done.empties done.elsewhere done.upper) c.args.touched.now.pages.now.keys c.pages.invariant.joined there
@@ -69,7 +70,7 @@ returns-in_err-add_if-clause-few_in_all g c = λ failed.
     let rest = c.next.new.self in
     let step = c.in-Some.ensures.steps in
     let first = kept_of c.args.self.now in
-    let was : page_at (kept_of c.pages.self) page ≡ page_at first page = c.pages.invariant.left page (subst (λ l. is_among l page ≡ true) (sym step) (among-head page rest)) in
+    let was : page_at (kept_of c.pages.self) page ≡ page_at first page = c.pages.invariant.left page (subst (λ l. has_page l page ≡ true) (sym step) (among-head page rest)) in
     let changes : changed_chunks first m c.pages.page-iterator ≡ page_changes (page_at first page) m page + changed_chunks first m rest = ap (changed_chunks first m) step in
     let changes' : page_changes (page_at (kept_of c.pages.self) page) m page ≡ page_changes (page_at first page) m page = ap (λ (o : Option PageTree). page_changes o m page) was in
     let so_far = c.pages.invariant.few failed in
@@ -86,16 +87,16 @@ pages-init g c =
     let changes = ap (changed_chunks nodes m) eq in
     record {
       sorted = subst (IsStrictlySortedBy nat_cmp) (sym eq) c.iter-page-items.ensures.ordered;
-      among = λ p at. subst (λ l. is_among l p ≡ true) eq at;
+      among = λ p at. subst (λ l. has_page l p ≡ true) eq at;
       rest = omega (arith, ap length eq);
-      pages = λ before p not. before p (subst (λ l. is_among l p ≡ false) eq not);
+      pages = λ before p not. before p (subst (λ l. has_page l p ≡ false) eq not);
       others = λ p not. refl;
       left = λ p at. refl;
       made = c.requires.made;
       joined = c.requires.joined;
       fresh = λ failed. subst (λ xs. IsJoinedOver digest nodes xs c.into_iter-page-iterator.result) (sym none) (over-first digest nodes c.into_iter-page-iterator.result (subst (IsJoinedBut digest nodes) (sym eq) c.requires.joined));
       whole = λ failed. subst (λ xs. IsJoinedOver digest nodes xs []) (sym none) (over-first digest nodes [] (c.requires.whole failed));
-      of = λ p is. absurd (true≢false (sym is ∙ ap (λ xs. is_among xs p) none));
+      of = λ p is. absurd (true≢false (sym is ∙ ap (λ xs. has_page xs p) none));
       empties = refl;
       count = omega (arith, ap length none, ap length eq);
       choice = ap (λ xs. xs ++ stale_pages c.args.touched.now.failed nodes m c.into_iter-page-iterator.result) none ∙ ap (stale_pages c.args.touched.now.failed nodes m) eq;
@@ -117,10 +118,10 @@ pages-preserved g c =
     let before = kept_of c.pages.self in
     let after = kept_of c.renew_page.new.self in
     let keys = c.args.touched.now.pages.now.keys in
-    let was : page_at before page ≡ page_at first page = inv.left page (subst (λ l. is_among l page ≡ true) (sym step) (among-head page rest)) in
+    let was : page_at before page ≡ page_at first page = inv.left page (subst (λ l. has_page l page ≡ true) (sym step) (among-head page rest)) in
     let sorted : IsStrictlySortedBy nat_cmp (page ∷ rest) = subst (IsStrictlySortedBy nat_cmp) step inv.sorted in
     let apart = sorted-apart page rest sorted in
-    let there = inv.among page (subst (λ l. is_among l page ≡ true) (sym step) (among-head page rest)) in
+    let there = inv.among page (subst (λ l. has_page l page ≡ true) (sym step) (among-head page rest)) in
     let long : length c.pages.page-iterator ≡ length rest + 1 = omega (arith, ap length step) in
     let done = c.renew_page.ensures in
     let ok = c.in_ok-is_stale.ensures in
@@ -135,19 +136,19 @@ pages-preserved g c =
     let changes' : page_changes (page_at before page) m page ≡ page_changes (page_at first page) m page = ap (λ (o : Option PageTree). page_changes o m page) was in
     record {
       sorted = sorted_tail nat_cmp page rest sorted;
-      among = λ p at. inv.among p (subst (λ l. is_among l p ≡ true) (sym step) (among-tail page rest p at));
+      among = λ p at. inv.among p (subst (λ l. has_page l p ≡ true) (sym step) (among-tail page rest p at));
       rest = omega (arith, inv.rest, long);
       pages = λ is p not. ⊎_elim
           (λ here. subst (λ q. IsPageOf (page_at after q) m q) (sym here) ok.page)
-          (λ other. subst (λ (o : Option PageTree). IsPageOf o m p) (sym (done.elsewhere p other)) (inv.pages is p (subst (λ l. is_among l p ≡ false) (sym step) (among-other page rest p other not))))
+          (λ other. subst (λ (o : Option PageTree). IsPageOf o m p) (sym (done.elsewhere p other)) (inv.pages is p (subst (λ l. has_page l p ≡ false) (sym step) (among-other page rest p other not))))
           (cases_eq p page);
-      others = λ p not. done.elsewhere p (λ e. true≢false (sym there ∙ (ap (is_among keys) (sym e) ∙ not))) ∙ inv.others p not;
-      left = λ p at. done.elsewhere p (λ e. true≢false (sym at ∙ (ap (is_among rest) e ∙ apart))) ∙ inv.left p (subst (λ l. is_among l p ≡ true) (sym step) (among-tail page rest p at));
+      others = λ p not. done.elsewhere p (λ e. true≢false (sym there ∙ (ap (has_page keys) (sym e) ∙ not))) ∙ inv.others p not;
+      left = λ p at. done.elsewhere p (λ e. true≢false (sym at ∙ (ap (has_page rest) e ∙ apart))) ∙ inv.left p (subst (λ l. has_page l p ≡ true) (sym step) (among-tail page rest p at));
       made = done.made;
       joined = stays-joined digest before after page done.empties done.elsewhere (aside digest before after page done.empties done.elsewhere done.upper) keys inv.joined there;
       fresh = λ failed. ⊎_elim
           (λ e. subst (λ xs. IsJoinedOver digest after xs rest) (sym (added e)) (over-more digest before after page done.empties done.elsewhere done.upper old c.pages.page-iterator rest (ok.stale e)
-          (λ p other not. subst (λ l. is_among l p ≡ false) (sym step) (among-other page rest p other not)) (inv.fresh failed)))
+          (λ p other not. subst (λ l. has_page l p ≡ false) (sym step) (among-other page rest p other not)) (inv.fresh failed)))
           (λ e. absurd (true≢false (sym failed ∙ (ok.fresh e).0)))
           either;
       whole = λ failed. ⊎_elim
@@ -155,8 +156,8 @@ pages-preserved g c =
           (λ e. subst (λ xs. IsJoinedOver digest after xs []) (sym (kept e)) (over-same digest before after page done.empties done.elsewhere done.upper old (ok.fresh e).2 (ok.fresh e).1 (inv.whole failed)))
           either;
       of = λ p is. ⊎_elim
-          (λ e. ⊎_elim (λ here. ap (is_among keys) here ∙ there) (λ held. inv.of p held) (among-one old page p (subst (λ xs. is_among xs p ≡ true) (added e) is)))
-          (λ e. inv.of p (subst (λ xs. is_among xs p ≡ true) (kept e) is))
+          (λ e. ⊎_elim (λ here. ap (has_page keys) here ∙ there) (λ held. inv.of p held) (among-one old page p (subst (λ xs. has_page xs p ≡ true) (added e) is)))
+          (λ e. inv.of p (subst (λ xs. has_page xs p ≡ true) (kept e) is))
           either;
       empties = done.empties ∙ inv.empties;
       count = ⊎_elim (λ e. omega (arith, one e, inv.count, long)) (λ e. omega (arith, same e, inv.count, long)) either;
@@ -183,7 +184,7 @@ pages-preserved g c =
     }
 
 pub returns-clause-pages : goal.returns-clause-pages
-returns-clause-pages g c = λ before p. c.pages.invariant.pages before p (ap (λ l. is_among l p) c.in-None.ensures.steps.0)
+returns-clause-pages g c = λ before p. c.pages.invariant.pages before p (ap (λ l. has_page l p) c.in-None.ensures.steps.0)
 
 pub returns-clause-stale : goal.returns-clause-stale
 returns-clause-stale g c =

@@ -1,5 +1,6 @@
 use Rattle.std.proofs.Common.{ap, ◌∙◌, sym, subst}
-use Rattle.mem_tree.specs.Tree.{kept_of, is_among, IsOver}
+use Rattle.mem_plain.specs.Contents.{has_page}
+use Rattle.mem_tree.specs.Tree.{kept_of, IsOver}
 use Rattle.mem_tree.proofs.AmongLemmas.{more-others, more-fresh, more-below}
 use Rattle.mem_tree.proofs.JoinedLemmas.{joined-fewer, over-fewer}
 use Rattle.mem_tree.proofs.tree.MemTree.touch.Goals as goal
@@ -26,4 +27,4 @@ returns-clause-tree g c = λ m tree.
 pub returns-clause-others : goal.returns-clause-others
 returns-clause-others g c = λ p apart.
     let inside = c.self.inside in
-    more-others inside.touched.keys c.insert.new.self.keys c.args.page c.in_ok-insert.ensures.updates.0 p apart ∙ ap (λ t. is_among t.touched p) c.self.view_is
+    more-others inside.touched.keys c.insert.new.self.keys c.args.page c.in_ok-insert.ensures.updates.0 p apart ∙ ap (λ t. has_page t.touched p) c.self.view_is

@@ -3,7 +3,7 @@ use Rattle.std.specs.Prelude.{slice_get}
 use Rattle.posters.specs.declared.playing.Place.{Place}
 use Rattle.seat_lock.specs.Seats.{Known}
 use Rattle.board_book.specs.declared.book.Opening.{Opening}
-use Rattle.posters.specs.Serving.{kept_of, said_by, SeesOverOf}
+use Rattle.posters.specs.Serving.{kept_of, saying_of, SeesOverOf}
 use Rattle.posters.proofs.Answering.{said_at, said_again}
 use Rattle.posters.proofs.Ended.{one_more_over}
 use Rattle.posters.proofs.Numbering.{prover_at}
@@ -18,7 +18,7 @@ serve_prover-requires-clause-seat g c κs within =
       seat_again c.args.self.now.board r.heads c.args.seat.now c.loop-i.seat v.0 r.seat,
       prover_at g.P.Provers.says r.heads number c.in-Some.place (g.A.Answerer.answers (slice_index_or c.loop-i.answerers c.loop-i.i c.index-answerers-i.result))
           (ap (λ (ps : List Place). slice_get ps number) (sym r.placed) ∙ (sym c.place_at.ensures ∙ c.in-Some.is))
-          (said_at g.A.Answerer.answers (said_by g.P.Provers.says r.heads) c.loop-i.answerers c.args.numbers.now c.loop-i.i c.index-answerers-i.result 0 (v.1 ∙ r.said_all) c.loop-i-test.true),
+          (said_at g.A.Answerer.answers (saying_of g.P.Provers.says r.heads) c.loop-i.answerers c.args.numbers.now c.loop-i.i c.index-answerers-i.result 0 (v.1 ∙ r.said_all) c.loop-i-test.true),
     )
 
 pub returns-in-EndsEarly-clause-answerers : goal.returns-in-EndsEarly-clause-answerers
