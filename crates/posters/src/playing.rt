@@ -119,8 +119,8 @@ fn join_posters<J: Judge + Drop, P: Provers + Drop>(
 /// As the code shows, each poster has a thread of its own if one can be made, no thread is started with one poster, and answers are made
 /// while other posters post. A poster ends when the matches of all its provers are over. It ends early when its answerer finds no memory,
 /// after 10,000,000 turns in a row in which none of its provers had anything to do, after 15 of them without news if some poster hasn't
-/// begun (they take 0.927 seconds), and when another ended early; what is left undone is played alone then. News is each post but a pass
-/// that is taken. One with nothing to do sleeps until there is news, for a tenth of a second at most.
+/// begun (they take 0.927 seconds), and when another ended early; what is left undone is played by the calling thread alone. News is each
+/// post but a pass that is taken. One with nothing to do sleeps until there is news, for a tenth of a second at most.
 pub fn play_tasks<
     J: Judge + Drop + Send,
     P: Provers + Drop + Send,
