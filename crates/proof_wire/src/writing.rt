@@ -174,7 +174,7 @@ fn put_named(out: &mut Vec<u8>, named: &RegOpenings) -> Result<(), AllocError>
 
 /// A flag if a value is there, and 0 if it isn't.
 fn flag_if<T>(flag: u8, value: &Option<T>) -> u8
-    ensures { result ≡ flag_form flagged value.now }
+    ensures { result ≡ flag_form flag value.now }
 {
     match value {
         Some(_) => flag,
