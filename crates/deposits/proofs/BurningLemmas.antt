@@ -26,7 +26,7 @@ use Rattle.deposits.specs.ExactBalance.{HasWonAll, WhoLivesWinsAll, collisions_a
 use Rattle.deposits.specs.Theorem.{LedgersAddUp, BalancesAddUp, EndedIsSettledUp}
 use Rattle.deposits.proofs.StepLemmas.{other-test, two-cells}
 use Rattle.deposits.proofs.OrderLemmas.{of_by, accounts_by, accounts-by-same, IsClosedForm, closed-form}
-use Rattle.deposits.proofs.RecordLemmas.{outs-append, wins-append, spent-append, all-append, claims-wins, claims-spent, claims-events, record-outs, balances-same, can-both, all_told-both}
+use Rattle.deposits.proofs.RecordLemmas.{outs-append, wins-append, spent-append, all-append, claims-wins, claims-spent, claims-events, record-outs, balances-same, can-both, after-both}
 
 -- THE EVENTS: each loser of a dispute is out as by its claim
 
@@ -148,7 +148,7 @@ burn-losers-can s n r i = (can-both (claim_events 1 r.claims) (burn_events r.dis
 pub burned-told : (s n : ℕ) (r : Record) (a : Accounts) (b : Balances) → IsSettledUp n r → a ≡ all_told (burn_events r.disputes) (all_told (claim_events 1 r.claims) (staked s n)) →
     b.of ≡ a.of → b.pool ≡ a.pool → b ≡ balances_if_burned s n r
 burned-told s n r a b i e f g =
-    let all : a ≡ all_told (burn_events_of r) (staked s n) = e ∙ sym (all_told-both (claim_events 1 r.claims) (burn_events r.disputes) (staked s n)) in
+    let all : a ≡ all_told (burn_events_of r) (staked s n) = e ∙ sym (after-both (claim_events 1 r.claims) (burn_events r.disputes) (staked s n)) in
     let t : IsBurned s n r = record-burned s n r i in
     balances-same b.of (kept_stakes_from s r 1 n) b.pool (burned_amount s r) (f ∙ ap (λ (x : Accounts). x.of) all ∙ t.of) (g ∙ ap (λ (x : Accounts). x.pool) all ∙ t.pool)
 

@@ -133,18 +133,18 @@ comes s n (e ∷ es) w o k i once =
       is = ap (all_told es) step ∙ later.is ∙ accounts-by-same s n _ _ _ _ _ _ (λ q some few. omega arith) (λ q some few. omega arith) (omega arith);
     }
 
--- a ledger that has just been staked
+-- a ledger that has just been opened
 
-staked-of : (s p n : ℕ) → replicate n s ≡ of_by s (λ q. 0) (λ q. 0) p n
-staked-of s p zero = refl
-staked-of s p (suc n) = two-cells _ _ _ _ (omega arith) (staked-of s (p + 1) n)
+opened-of : (s p n : ℕ) → replicate n s ≡ of_by s (λ q. 0) (λ q. 0) p n
+opened-of s p zero = refl
+opened-of s p (suc n) = two-cells _ _ _ _ (omega arith) (opened-of s (p + 1) n)
 
-staked-out : (p n : ℕ) → replicate n false ≡ out_by (λ q. 0) p n
-staked-out p zero = refl
-staked-out p (suc n) = two-cells _ _ _ _ refl (staked-out (p + 1) n)
+opened-out : (p n : ℕ) → replicate n false ≡ out_by (λ q. 0) p n
+opened-out p zero = refl
+opened-out p (suc n) = two-cells _ _ _ _ refl (opened-out (p + 1) n)
 
-pub staked-by : (s n : ℕ) → staked s n ≡ accounts_by s n (λ q. 0) (λ q. 0) 0
-staked-by s n = accounts-same s _ _ _ _ _ _ (staked-of s 1 n) (staked-out 1 n) (omega arith)
+pub opened-by : (s n : ℕ) → staked s n ≡ accounts_by s n (λ q. 0) (λ q. 0) 0
+opened-by s n = accounts-same s _ _ _ _ _ _ (opened-of s 1 n) (opened-out 1 n) (omega arith)
 
 -- THE CLOSED FORM of events that put nobody out twice
 
@@ -156,8 +156,8 @@ pub closed-form : (s n : ℕ) (es : List Event) → AllEventsOf n es → ((p : �
 closed-form s n es i once =
     let c : Comes s n es (λ q. 0) (λ q. 0) 0 = comes s n es (λ q. 0) (λ q. 0) 0 i (λ p. omega (arith, once p)) in
     record {
-      can = subst (CanTellAll es) (sym (staked-by s n)) c.can;
-      is = ap (all_told es) (staked-by s n) ∙ c.is ∙ accounts-by-same s n _ _ _ _ _ _ (λ q some few. omega arith) (λ q some few. omega arith) (omega arith);
+      can = subst (CanTellAll es) (sym (opened-by s n)) c.can;
+      is = ap (all_told es) (opened-by s n) ∙ c.is ∙ accounts-by-same s n _ _ _ _ _ _ (λ q some few. omega arith) (λ q some few. omega arith) (omega arith);
     }
 
 -- IN ANY ORDER

@@ -15,7 +15,7 @@ use Rattle.deposits.specs.Accounts.{Accounts, staked, all_told, CanTellAll}
 use Rattle.deposits.proofs.StepLemmas.{same-test, other-test, two-cells}
 use Rattle.deposits.proofs.OrderLemmas.{any, of_by, accounts_by, accounts-by-same, IsClosedForm, closed-form}
 
--- one list all_told another
+-- one list after another
 
 pub outs-append : (es fs : List Event) (p : ℕ) → outs (es ++ fs) p ≡ outs es p + outs fs p
 outs-append [] fs p = omega arith
@@ -163,7 +163,7 @@ of-record : (s : ℕ) (r : Record) (p n : ℕ) → of_by s (wins_of r) (losses_o
 of-record s r p zero = refl
 of-record s r p (suc n) = two-cells _ _ _ _ refl (of-record s r (p + 1) n)
 
--- the accounts all_told the events of a record
+-- the accounts after the events of a record
 pub record IsTold (s n : ℕ) (r : Record) (es : List Event) : Type 0 where
   pub can : CanTellAll es (staked s n)
   pub of : (all_told es (staked s n)).of ≡ balances_from s r 1 n
@@ -179,15 +179,15 @@ told-of s n r es i once e f g =
 pub record-told : (s n : ℕ) (r : Record) → IsSettledUp n r → IsTold s n r (events_of r)
 record-told s n r i = told-of s n r (events_of r) (record-events n r i) i.once (λ p some few. record-wins r p) (λ p some few. record-outs n r p i some) (record-spent r)
 
--- the events of claims and of disputes may be told one list all_told the other
+-- the events of claims and of disputes may be told one list after the other
 
 pub can-both : (es fs : List Event) (a : Accounts) → CanTellAll (es ++ fs) a → CanTellAll es a × CanTellAll fs (all_told es a)
 can-both [] fs a can = (tt, can)
 can-both (e ∷ es) fs a can = let more = can-both es fs _ can.1 in ((can.0, more.0), more.1)
 
-pub all_told-both : (es fs : List Event) (a : Accounts) → all_told (es ++ fs) a ≡ all_told fs (all_told es a)
-all_told-both [] fs a = refl
-all_told-both (e ∷ es) fs a = all_told-both es fs _
+pub after-both : (es fs : List Event) (a : Accounts) → all_told (es ++ fs) a ≡ all_told fs (all_told es a)
+after-both [] fs a = refl
+after-both (e ∷ es) fs a = after-both es fs _
 
 -- THE CALL
 
@@ -203,6 +203,6 @@ balances-same xs ys m n e f = cc
 pub balances-told : (s n : ℕ) (r : Record) (a : Accounts) (b : Balances) → IsSettledUp n r → a ≡ all_told (dispute_events r.disputes) (all_told (claim_events 1 r.claims) (staked s n)) →
     b.of ≡ a.of → b.pool ≡ a.pool → b ≡ balances_of s n r
 balances-told s n r a b i e f g =
-    let all : a ≡ all_told (events_of r) (staked s n) = e ∙ sym (all_told-both (claim_events 1 r.claims) (dispute_events r.disputes) (staked s n)) in
+    let all : a ≡ all_told (events_of r) (staked s n) = e ∙ sym (after-both (claim_events 1 r.claims) (dispute_events r.disputes) (staked s n)) in
     let t : IsTold s n r (events_of r) = record-told s n r i in
     balances-same b.of (balances_from s r 1 n) b.pool (pool s r) (f ∙ ap (λ (x : Accounts). x.of) all ∙ t.of) (g ∙ ap (λ (x : Accounts). x.pool) all ∙ t.pool)

@@ -1,4 +1,4 @@
--- Nothing is lost: balances and pool add up to the stakes all_told any events that may be told.
+-- Nothing is lost: balances and pool add up to the stakes after any events that may be told.
 use Rattle.std.proofs.Common.{◌≡◌, ℕ, ◌+◌, ◌-◌, ◌*◌, ◌<◌, ◌≤◌, Bool, true, false, ◌||◌, ◌==◌, List, [], ◌∷◌, length, refl, sym, ◌∙◌, arith, subst}
 use Rattle.std.proofs.lemmas.Bool.{or_left}
 use Rattle.bisect_game.specs.declared.settled.Close.TheVariants.{Out, Collision}
@@ -72,15 +72,15 @@ pub record IsKept (s t : Accounts) : Type 0 where
   pub stake : t.stake ≡ s.stake
   pub provers : length t.of ≡ length s.of
 
-pub kept-all_told : (es : List Event) (s : Accounts) → Funded s → CanTellAll es s → IsKept s (all_told es s)
-kept-all_told [] s i can = record { funded = i; stake = refl; provers = refl }
-kept-all_told (e ∷ es) s i can =
-    let k : IsKept (told s e) (all_told es (told s e)) = kept-all_told es (told s e) (funded-told s e i can.0) can.1 in
+pub kept-after : (es : List Event) (s : Accounts) → Funded s → CanTellAll es s → IsKept s (all_told es s)
+kept-after [] s i can = record { funded = i; stake = refl; provers = refl }
+kept-after (e ∷ es) s i can =
+    let k : IsKept (told s e) (all_told es (told s e)) = kept-after es (told s e) (funded-told s e i can.0) can.1 in
     record { funded = k.funded; stake = k.stake; provers = k.provers ∙ told-length s.stake e 1 s.of }
 
 pub ledgers-add-up : LedgersAddUp
 ledgers-add-up stake provers es can =
-    let k : IsKept (staked stake provers) (all_told es (staked stake provers)) = kept-all_told es (staked stake provers) (new-funded stake provers) can in
+    let k : IsKept (staked stake provers) (all_told es (staked stake provers)) = kept-after es (staked stake provers) (new-funded stake provers) can in
     let count : length (all_told es (staked stake provers)).of ≡ provers = k.provers ∙ count-of stake provers in
     rw (k.stake, count) at k.funded.total
 

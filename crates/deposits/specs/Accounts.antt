@@ -1,4 +1,4 @@
--- To believe: what a ledger has, and what it has all_told an event. Each prover gains and loses its own amounts.
+-- To believe: what a ledger has, and what it has after an event. Each prover gains and loses its own amounts.
 use Rattle.std.specs.Prelude.{◌≡◌, ℕ, ◌+◌, ◌-◌, ◌*◌, Bool, true, false, ◌||◌, List, [], ◌∷◌, length, replicate, slice_index_or}
 use Rattle.tournament.specs.OpenDisputes.{one_if}
 use Rattle.deposits.specs.Events.{Event, puts_out, pays, pooled, IsEventOf}
@@ -35,7 +35,7 @@ pub record CanTell (s : Accounts) (e : Event) : Type 0 where
   pub known : IsEventOf (length s.of) e
   pub not_yet : (p : ℕ) → puts_out e p ≡ true → is_told_out s p ≡ false
 
--- events, one all_told another
+-- events, one after another
 
 abbrev pub all_told : List Event → Accounts → Accounts
 all_told [] s = s

@@ -26,7 +26,7 @@ abbrev pub EventsAddTheirOwn : Type 0
 EventsAddTheirOwn =
     (a : Accounts) (e : Event) (p : ℕ) → 0 < p → p ≤ length a.of → has (told a e) p ≡ has a p + a.stake * one_if (pays e p) - a.stake * one_if (puts_out e p)
 
--- a ledger all_told events, in closed form
+-- a ledger after events, in closed form
 pub record IsInClosedForm (stake provers : ℕ) (es : List Event) (a : Accounts) : Type 0 where
   pub balances : (p : ℕ) → 0 < p → p ≤ provers → has a p ≡ stake * (1 + wins es p - outs es p)
   pub pool : a.pool ≡ stake * spent es
@@ -48,7 +48,7 @@ pub record RecordIsInClosedForm (stake provers : ℕ) (r : Record) : Type 0 wher
 abbrev pub RecordsAreInClosedForm : Type 0
 RecordsAreInClosedForm = (stake provers : ℕ) (r : Record) → IsSettledUp provers r → RecordIsInClosedForm stake provers r
 
--- nothing is lost: all_told any events that may be applied balances and pool add up to the stakes, and so they do for a record
+-- nothing is lost: after any events that may be applied balances and pool add up to the stakes, and so they do for a record
 
 abbrev pub LedgersAddUp : Type 0
 LedgersAddUp =

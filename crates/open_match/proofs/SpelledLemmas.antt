@@ -98,16 +98,16 @@ two-flags None (Some y) = omega arith
 two-flags (Some x) None = omega arith
 two-flags (Some x) (Some y) = omega arith
 
-flagged-small : {A : Type 0} (n : ℕ) (f : Option A) → flagged n f ≤ n
-flagged-small n None = omega arith
-flagged-small n (Some x) = omega arith
+flag-small : {A : Type 0} (n : ℕ) (f : Option A) → flagged n f ≤ n
+flag-small n None = omega arith
+flag-small n (Some x) = omega arith
 
 three-flags : {A B C : Type 0} (f : Option A) (g : Option B) (h : Option C) → flagged 1 f + flagged 2 g + flagged 4 h < 256
-three-flags f g h = omega (arith, flagged-small 1 f, flagged-small 2 g, flagged-small 4 h)
+three-flags f g h = omega (arith, flag-small 1 f, flag-small 2 g, flag-small 4 h)
 
-one-if_named : (test : Bool) (r : ℕ) → length (if_named test r) ≤ 1
-one-if_named true r = omega arith
-one-if_named false r = omega arith
+one-kept : (test : Bool) (r : ℕ) → length (if_named test r) ≤ 1
+one-kept true r = omega arith
+one-kept false r = omega arith
 
 few-once : (a b c : ℕ) → length (once a b c) ≤ 3
 few-once a b c =
@@ -115,7 +115,7 @@ few-once a b c =
     let third = not (c == 0) && not (c == a) && not (c == b) in
     let x = length-append (if_named (not (a == 0)) a) (if_named second b ++ if_named third c) in
     let y = length-append (if_named second b) (if_named third c) in
-    omega (arith, x, y, one-if_named (not (a == 0)) a, one-if_named second b, one-if_named third c)
+    omega (arith, x, y, one-kept (not (a == 0)) a, one-kept second b, one-kept third c)
 
 few-by : (o : Option Instr) → length (named_by o) ≤ 3
 unfolding named

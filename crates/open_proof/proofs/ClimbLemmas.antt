@@ -1,4 +1,4 @@
--- The strings of a way are its string and those of the rest way_above it.
+-- The strings of a way are its string and those of the rest above it.
 use Rattle.std.proofs.Common.{◌≡◌, ℕ, zero, suc, ◌+◌, ◌/◌, ◌%◌, ◌^◌, List, [], ◌∷◌, length, Option, Some, None, true, false, refl, sym, ap, ◌∙◌, add-one}
 use Rattle.std.proofs.Math.Nat.{div-one, div-div-eq-div-mul, pow-suc, mul_comm}
 use Rattle.rd_base.specs.declared.digest.Digest32.{Digest32}

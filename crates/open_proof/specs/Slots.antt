@@ -21,7 +21,7 @@ there (None ∷ ws) = there ws
 abbrev pub first_three : List Way → List (Option Way)
 first_three ws = slice_get ws 0 ∷ slice_get ws 1 ∷ slice_get ws 2 ∷ []
 
--- the rest of a way way_above its string, by the digest of the string; none at the root
+-- the rest of a way above its string, by the digest of the string; none at the root
 abbrev pub way_above_with : ℕ → List ℕ → List ℕ → List Digest32 → Option Way
 way_above_with index root digest [] = None
 way_above_with index root digest (s ∷ ss) =

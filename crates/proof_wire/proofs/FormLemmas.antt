@@ -278,9 +278,9 @@ optional_next_of read form reads is_there o g rest f is fits =
 abbrev number_if : ℕ → Bool → ℕ
 number_if number is_there = cond is_there number 0
 
-flagged-number_if : {A : Type 0} (number : ℕ) (o : Option A) → number_if number (is_some o) ≡ flagged number o
-flagged-number_if number None = refl
-flagged-number_if number (Some x) = refl
+flag-number_if : {A : Type 0} (number : ℕ) (o : Option A) → number_if number (is_some o) ≡ flagged number o
+flag-number_if number None = refl
+flag-number_if number (Some x) = refl
 
 two_flags : (n : ℕ) → n ≤ 3 → n ≡ number_if 1 (has_flag 1 n) + number_if 2 (has_flag 2 n)
 two_flags zero few = refl
@@ -304,7 +304,7 @@ three_flags (suc (suc (suc (suc (suc (suc (suc (suc n)))))))) few = absurd (omeg
 pub flags_are : {A B : Type 0} (n : ℕ) (fetch : Option A) (operand : Option B) → n ≤ 3 → has_flag 1 n ≡ is_some fetch → has_flag 2 n ≡ is_some operand → n ≡ flagged 1 fetch + flagged 2 operand
 flags_are n fetch operand few first second =
     two_flags n few ∙ ap (λ b. number_if 1 b + number_if 2 (has_flag 2 n)) first ∙ ap (λ b. number_if 1 (is_some fetch) + number_if 2 b) second
-    ∙ ap (λ k. k + number_if 2 (is_some operand)) (flagged-number_if 1 fetch) ∙ ap (λ k. flagged 1 fetch + k) (flagged-number_if 2 operand)
+    ∙ ap (λ k. k + number_if 2 (is_some operand)) (flag-number_if 1 fetch) ∙ ap (λ k. flagged 1 fetch + k) (flag-number_if 2 operand)
 
 pub flags_3_are : {A B C : Type 0} (n : ℕ) (fetch : Option A) (operand : Option B) (input : Option C) → n ≤ 7
     → has_flag 1 n ≡ is_some fetch → has_flag 2 n ≡ is_some operand → has_flag 4 n ≡ is_some input → n ≡ flagged 1 fetch + flagged 2 operand + flagged 4 input
@@ -312,9 +312,9 @@ flags_3_are n fetch operand input few first second third =
     three_flags n few ∙ ap (λ b. number_if 1 b + number_if 2 (has_flag 2 n) + number_if 4 (has_flag 4 n)) first
     ∙ ap (λ b. number_if 1 (is_some fetch) + number_if 2 b + number_if 4 (has_flag 4 n)) second
     ∙ ap (λ b. number_if 1 (is_some fetch) + number_if 2 (is_some operand) + number_if 4 b) third
-    ∙ ap (λ k. k + number_if 2 (is_some operand) + number_if 4 (is_some input)) (flagged-number_if 1 fetch)
-    ∙ ap (λ k. flagged 1 fetch + k + number_if 4 (is_some input)) (flagged-number_if 2 operand)
-    ∙ ap (λ k. flagged 1 fetch + flagged 2 operand + k) (flagged-number_if 4 input)
+    ∙ ap (λ k. k + number_if 2 (is_some operand) + number_if 4 (is_some input)) (flag-number_if 1 fetch)
+    ∙ ap (λ k. flagged 1 fetch + k + number_if 4 (is_some input)) (flag-number_if 2 operand)
+    ∙ ap (λ k. flagged 1 fetch + flagged 2 operand + k) (flag-number_if 4 input)
 
 -- what the flags of something say
 pub record Say {A B : Type 0} (fetch : Option A) (operand : Option B) (n : ℕ) : Type 0 where

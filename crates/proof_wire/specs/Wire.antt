@@ -107,7 +107,7 @@ claim c = digest c.mem ‖ digest c.regs ‖ control c.ctl ‖ in_eight_bytes (l
 abbrev pub roots : List Digest32 → Form
 roots rs = given ((1 ≤ length rs) × (length rs ≤ 15)) ‖ byte (length rs) ‖ each digest (length rs) rs
 
--- a proof of version 1 behind its tag: flagged 1 is the fetched chunk, 2 the data chunk
+-- a proof of version 1 behind its tag: flag 1 is the fetched chunk, 2 the data chunk
 abbrev pub step_proof : StepProof → Form
 step_proof p =
     digest p.mem ‖ registers p.regs ‖ control p.ctl ‖ byte (flagged 1 p.fetch + flagged 2 p.operand)
@@ -123,7 +123,7 @@ step_proof_2 p =
     digest p.mem ‖ digest p.regs ‖ control p.ctl ‖ byte (flagged 1 p.fetch + flagged 2 p.operand) ‖ count p.named
     ‖ optional opening p.fetch ‖ each register_opening (length p.named) p.named ‖ optional opening p.operand
 
--- a proof of version 3 behind its tag: flagged 4 is the input's chunk
+-- a proof of version 3 behind its tag: flag 4 is the input's chunk
 abbrev pub step_proof_3 : StepProof3 → Form
 step_proof_3 p =
     digest p.mem ‖ in_four_bytes p.input_len ‖ digest p.input_root ‖ digest p.regs ‖ control p.ctl
