@@ -19,9 +19,9 @@ use Rattle.bisect_game.specs.Rules.{rules_of}
 use Rattle.board_book.specs.declared.book.Opening.{Opening}
 use Rattle.board_book.specs.declared.entry.Entry.{Entry}
 use Rattle.board_book.specs.Entries.{IsJournal, who, noted}
-use Rattle.board_book.specs.Tasks.{Task, task_of, numbered, Games, begun_game, games_of, IsTaskJournal, games_after, entries_of, BookOf, of_task, tasks_of, openings, noted_for}
+use Rattle.board_book.specs.Tasks.{Task, task_of, numbered, Games, begun_game, games_of, IsTaskJournal, games_after, entries_of, BookOf, of_task, tasks_of_openings, openings, noted_for}
 use Rattle.board_book.specs.Alone.{game_after}
-use Rattle.board_book.specs.Keeping.{all_entries, HasRoom, AreKept, Grows, NumbersAgree}
+use Rattle.board_book.specs.Keeping.{all_entries, HasRoom, AreBooksOf, Grows, NumbersAgree}
 use Rattle.board_book.proofs.AloneLemmas.{alone, journals_join, block_is_legal, entries_join, entries_of_block, entries_of_others, journal_rest}
 
 -- numbers and places
@@ -99,33 +99,33 @@ module _ {N M : Type 0} where
   opening_there bs t b there = at_place (openings bs) t b.opening (numbered_map (λ (c : BookOf N M). c.opening) bs t b there)
 
   -- the task and the game of a book
-  pub task_there : (ruling : N → Ruling) (says : M → Says) (bs : List (BookOf N M)) (t : ℕ) (b : BookOf N M) → numbered bs t ≡ Some b → numbered (tasks_of ruling says (openings bs)) t ≡ Some (task_of ruling says b.opening)
+  pub task_there : (ruling : N → Ruling) (says : M → Says) (bs : List (BookOf N M)) (t : ℕ) (b : BookOf N M) → numbered bs t ≡ Some b → numbered (tasks_of_openings ruling says (openings bs)) t ≡ Some (task_of ruling says b.opening)
   task_there ruling says bs t b there = numbered_map (task_of ruling says) (openings bs) t b.opening (numbered_map (λ (c : BookOf N M). c.opening) bs t b there)
 
   pub are_numbered : (ruling : N → Ruling) (says : M → Says) → NumbersAgree ruling says
   are_numbered ruling says = record {
     book = λ bs t b there. numbered_map (λ (c : BookOf N M). c.opening) bs t b there;
     opening = λ heads t h there. numbered_map (task_of ruling says) heads t h there;
-    task = λ heads t k there. (is_positive (tasks_of ruling says heads) t k there, few heads t k there);
+    task = λ heads t k there. (is_positive (tasks_of_openings ruling says heads) t k there, few heads t k there);
   }
     where
-      few : (heads : List (Opening N M)) (t : ℕ) (k : Task) → numbered (tasks_of ruling says heads) t ≡ Some k → t ≤ length heads
+      few : (heads : List (Opening N M)) (t : ℕ) (k : Task) → numbered (tasks_of_openings ruling says heads) t ≡ Some k → t ≤ length heads
       few heads t k there =
-          let some : 0 < t = is_positive (tasks_of ruling says heads) t k there in
-          let within : t - 1 < length (tasks_of ruling says heads) = slice_get_within (tasks_of ruling says heads) (t - 1) k (at_place (tasks_of ruling says heads) t k there) in
-          let long : length (tasks_of ruling says heads) ≡ length heads = length-map heads (task_of ruling says) in
+          let some : 0 < t = is_positive (tasks_of_openings ruling says heads) t k there in
+          let within : t - 1 < length (tasks_of_openings ruling says heads) = slice_get_within (tasks_of_openings ruling says heads) (t - 1) k (at_place (tasks_of_openings ruling says heads) t k there) in
+          let long : length (tasks_of_openings ruling says heads) ≡ length heads = length-map heads (task_of ruling says) in
           omega (arith, some, within, long)
 
-  game_there : (ruling : N → Ruling) (says : M → Says) (bs : List (BookOf N M)) (t : ℕ) (b : BookOf N M) → numbered bs t ≡ Some b → games_of (tasks_of ruling says (openings bs)) t ≡ Some (begun_game (task_of ruling says b.opening))
+  game_there : (ruling : N → Ruling) (says : M → Says) (bs : List (BookOf N M)) (t : ℕ) (b : BookOf N M) → numbered bs t ≡ Some b → games_of (tasks_of_openings ruling says (openings bs)) t ≡ Some (begun_game (task_of ruling says b.opening))
   game_there ruling says bs t b there = ap (option_map begun_game) (task_there ruling says bs t b there)
 
   -- one book has grown
-  pub kept_grown : (ruling : N → Ruling) (says : M → Says) (bs : List (BookOf N M)) (journal : List (ℕ × Entry)) (capacity t : ℕ) (b c : BookOf N M) → AreKept ruling says bs journal capacity → numbered bs t ≡ Some b → Grows ruling says b c →
-      AreKept ruling says (set bs (t - 1) c) (journal ++ of_task t (drop (length b.journal) c.journal)) capacity
+  pub kept_grown : (ruling : N → Ruling) (says : M → Says) (bs : List (BookOf N M)) (journal : List (ℕ × Entry)) (capacity t : ℕ) (b c : BookOf N M) → AreBooksOf ruling says bs journal capacity → numbered bs t ≡ Some b → Grows ruling says b c →
+      AreBooksOf ruling says (set bs (t - 1) c) (journal ++ of_task t (drop (length b.journal) c.journal)) capacity
   kept_grown ruling says bs journal capacity t b c kept there grows =
       let es : List Entry = drop (length b.journal) c.journal in
       let k : Task = task_of ruling says b.opening in
-      let games : Games = games_of (tasks_of ruling says (openings bs)) in
+      let games : Games = games_of (tasks_of_openings ruling says (openings bs)) in
       let here : slice_get bs (t - 1) ≡ Some b = at_place bs t b there in
       let some : 0 < t = is_positive bs t b there in
       let heads : openings (set bs (t - 1) c) ≡ openings bs = map_set_same (λ (x : BookOf N M). x.opening) bs (t - 1) b c here grows.opening in
@@ -145,7 +145,7 @@ module _ {N M : Type 0} where
       record {
         some = subst (λ (n : ℕ). 0 < n) (sym many) kept.some;
         eight = subst (λ (n : ℕ). n ≤ 8) (sym many) kept.eight;
-        legal = subst (λ (hs : List (Opening N M)). IsTaskJournal (journal ++ of_task t es) (games_of (tasks_of ruling says hs))) (sym heads) legal;
+        legal = subst (λ (hs : List (Opening N M)). IsTaskJournal (journal ++ of_task t es) (games_of (tasks_of_openings ruling says hs))) (sym heads) legal;
         own = λ u d is. own_after u d (is_positive (set bs (t - 1) c) u d is) some here (at_place (set bs (t - 1) c) u d is) own;
         counted = omega (arith, long, total, added, before);
         room = room_set bs (t - 1) capacity b c here grows.opening grows.few.0 grows.few.1 grows.few.2 kept.room;
@@ -174,7 +174,7 @@ module _ {N M : Type 0} where
       omega (arith, n, rest)
 
   -- books without entries
-  pub kept_empty : (ruling : N → Ruling) (says : M → Says) (bs : List (BookOf N M)) (capacity : ℕ) → 0 < length bs → length bs ≤ 8 → All (λ (b : BookOf N M). b.journal ≡ []) bs → HasRoom bs capacity → AreKept ruling says bs [] capacity
+  pub kept_empty : (ruling : N → Ruling) (says : M → Says) (bs : List (BookOf N M)) (capacity : ℕ) → 0 < length bs → length bs ≤ 8 → All (λ (b : BookOf N M). b.journal ≡ []) bs → HasRoom bs capacity → AreBooksOf ruling says bs [] capacity
   kept_empty ruling says bs capacity some eight all room = record {
     some = some;
     eight = eight;
@@ -192,10 +192,10 @@ module _ {N M : Type 0} where
 
   -- one book, with the entries that it has
   pub kept_one : (ruling : N → Ruling) (says : M → Says) (b : BookOf N M) (capacity : ℕ) → HasRoom (b ∷ []) capacity → IsJournal (rules_of (ruling b.opening.judge) b.opening.setup) (says b.opening.provers) b.journal (begun (rules_of (ruling b.opening.judge) b.opening.setup)) →
-      AreKept ruling says (b ∷ []) (of_task 1 b.journal) capacity
+      AreBooksOf ruling says (b ∷ []) (of_task 1 b.journal) capacity
   kept_one ruling says b capacity room legal =
       let e : BookOf N M = record { opening = b.opening; journal = []; game = b.game } in
-      let empty : AreKept ruling says (e ∷ []) [] capacity = kept_empty ruling says (e ∷ []) capacity (omega arith) (omega arith)
+      let empty : AreBooksOf ruling says (e ∷ []) [] capacity = kept_empty ruling says (e ∷ []) capacity (omega arith) (omega arith)
       (Rattle.std.proofs.lemmas.List.Elements.All-cons (λ (c : BookOf N M). c.journal ≡ []) e [] refl (Rattle.std.proofs.lemmas.List.Elements.All-nil (λ (c : BookOf N M). c.journal ≡ []))) (room.0, room.1, omega arith, room.3) in
       kept_grown ruling says (e ∷ []) [] capacity 1 e b empty refl (record { opening = refl; journal = refl; legal = legal; few = (room.0, room.1, room.2) })
 
@@ -240,17 +240,17 @@ module _ {N M : Type 0} (ruling : N → Ruling) (says : M → Says) (bs : List (
   pub grew_there : numbered bs t ≡ Some b
   grew_there = book_read bs t b g.some g.few g.lent
 
-  pub grew_kept : (journal journal_after : List (ℕ × Entry)) (capacity capacity_after : ℕ) → AreKept ruling says bs journal capacity → journal_after ≡ journal ++ of_task t (drop (length before) after) → capacity_after ≡ capacity →
-      AreKept ruling says (set bs (t - 1) c) journal_after capacity_after
+  pub grew_kept : (journal journal_after : List (ℕ × Entry)) (capacity capacity_after : ℕ) → AreBooksOf ruling says bs journal capacity → journal_after ≡ journal ++ of_task t (drop (length before) after) → capacity_after ≡ capacity →
+      AreBooksOf ruling says (set bs (t - 1) c) journal_after capacity_after
   grew_kept journal journal_after capacity capacity_after kept items cap =
       let now : journal_after ≡ journal ++ of_task t (drop (length b.journal) c.journal) = items ∙ ap₂ (λ (u v : List Entry). journal ++ of_task t (drop (length u) v)) g.old g.new in
-      subst (λ (j : List (ℕ × Entry)). AreKept ruling says (set bs (t - 1) c) j capacity_after) (sym now)
-      (subst (λ (n : ℕ). AreKept ruling says (set bs (t - 1) c) (journal ++ of_task t (drop (length b.journal) c.journal)) n) (sym cap) (kept_grown ruling says bs journal capacity t b c kept grew_there g.grows))
+      subst (λ (j : List (ℕ × Entry)). AreBooksOf ruling says (set bs (t - 1) c) j capacity_after) (sym now)
+      (subst (λ (n : ℕ). AreBooksOf ruling says (set bs (t - 1) c) (journal ++ of_task t (drop (length b.journal) c.journal)) n) (sym cap) (kept_grown ruling says bs journal capacity t b c kept grew_there g.grows))
 
-  pub grew_room : (journal : List (ℕ × Entry)) (capacity : ℕ) → AreKept ruling says bs journal capacity → length journal + (length after - length before) ≤ capacity
+  pub grew_room : (journal : List (ℕ × Entry)) (capacity : ℕ) → AreBooksOf ruling says bs journal capacity → length journal + (length after - length before) ≤ capacity
   grew_room journal capacity kept =
       let es : List Entry = drop (length before) after in
-      let next : AreKept ruling says (set bs (t - 1) c) (journal ++ of_task t es) capacity = grew_kept journal (journal ++ of_task t es) capacity capacity kept refl refl in
+      let next : AreBooksOf ruling says (set bs (t - 1) c) (journal ++ of_task t es) capacity = grew_kept journal (journal ++ of_task t es) capacity capacity kept refl refl in
       let all : all_entries (set bs (t - 1) c) ≤ capacity = within_room (set bs (t - 1) c) capacity next.room in
       let sum : length (journal ++ of_task t es) ≡ all_entries (set bs (t - 1) c) = next.counted in
       let parts : length (journal ++ of_task t es) ≡ length journal + length es = length-append journal (of_task t es) ∙ ap (λ (n : ℕ). length journal + n) (length-map es (λ (e : Entry). (t, e))) in
@@ -271,12 +271,12 @@ module _ {N M : Type 0} where
       subst (λ (l : List (BookOf N M)). HasRoom l m) (sym here) (subst (HasRoom (take i bs ++ b ∷ [])) (sym f.3) (room_more (take i bs) n f.0 b r f.1 f.2))
 
   pub one_kept : (ruling : N → Ruling) (says : M → Says) (b x : BookOf N M) (items : List (BookOf N M)) (journal after : List (ℕ × Entry)) (entries : List Entry) (capacity after_capacity : ℕ) → items ≡ b ∷ [] → x ≡ get_or items 0 x → entries ≡ x.journal → journal ≡ [] →
-      after ≡ journal ++ of_task 1 (drop 0 entries) → after_capacity ≡ capacity → HasRoom items capacity → IsJournal (rules_of (ruling b.opening.judge) b.opening.setup) (says b.opening.provers) b.journal (begun (rules_of (ruling b.opening.judge) b.opening.setup)) → AreKept ruling says items after after_capacity
+      after ≡ journal ++ of_task 1 (drop 0 entries) → after_capacity ≡ capacity → HasRoom items capacity → IsJournal (rules_of (ruling b.opening.judge) b.opening.setup) (says b.opening.provers) b.journal (begun (rules_of (ruling b.opening.judge) b.opening.setup)) → AreBooksOf ruling says items after after_capacity
   one_kept ruling says b x items journal after entries capacity after_capacity is read old none noted cap room legal =
       let here : x ≡ b = read ∙ ap (λ (l : List (BookOf N M)). get_or l 0 x) is in
       let now : after ≡ of_task 1 b.journal = noted ∙ ap₂ (λ (j : List (ℕ × Entry)) (l : List Entry). j ++ of_task 1 l) none (old ∙ ap (λ (y : BookOf N M). y.journal) here) in
-      let kept : AreKept ruling says (b ∷ []) (of_task 1 b.journal) capacity = kept_one ruling says b capacity (subst (λ (l : List (BookOf N M)). HasRoom l capacity) is room) legal in
-      subst (λ (l : List (BookOf N M)). AreKept ruling says l after after_capacity) (sym is) (subst (λ (j : List (ℕ × Entry)). AreKept ruling says (b ∷ []) j after_capacity) (sym now) (subst (λ (n : ℕ). AreKept ruling says (b ∷ []) (of_task 1 b.journal) n) (sym cap) kept))
+      let kept : AreBooksOf ruling says (b ∷ []) (of_task 1 b.journal) capacity = kept_one ruling says b capacity (subst (λ (l : List (BookOf N M)). HasRoom l capacity) is room) legal in
+      subst (λ (l : List (BookOf N M)). AreBooksOf ruling says l after after_capacity) (sym is) (subst (λ (j : List (ℕ × Entry)). AreBooksOf ruling says (b ∷ []) j after_capacity) (sym now) (subst (λ (n : ℕ). AreBooksOf ruling says (b ∷ []) (of_task 1 b.journal) n) (sym cap) kept))
 
   -- one of the books is another, of the same opening
   pub heads_same : (bs : List (BookOf N M)) (t : ℕ) (b c : BookOf N M) → numbered bs t ≡ Some b → c.opening ≡ b.opening → openings (set bs (t - 1) c) ≡ openings bs

@@ -8,8 +8,8 @@ use Rattle.std.proofs.lemmas.List.{length_push}
 use Rattle.bisect_game.specs.Ruling.{Ruling}
 use Rattle.bisect_game.specs.Says.{Says}
 use Rattle.board_book.specs.declared.entry.Entry.{Entry}
-use Rattle.board_book.specs.Tasks.{Task, task_of, numbered, Games, begun_game, games_of, turned, after_entry, IsTaskJournal, entries_of, BookOf, BooksOf, of_task, tasks_of, openings}
-use Rattle.board_book.specs.Keeping.{AreKept}
+use Rattle.board_book.specs.Tasks.{Task, task_of, numbered, Games, begun_game, games_of, turned, after_entry, IsTaskJournal, entries_of, BookOf, BooksOf, of_task, tasks_of_openings, openings}
+use Rattle.board_book.specs.Keeping.{AreBooksOf}
 
 -- the last of a list of one
 alone_in : {X : Type 0} (xs rest : List X) (b : X) → length xs ≡ 1 → xs ≡ rest ++ b ∷ [] → xs ≡ b ∷ []
@@ -45,14 +45,14 @@ no_other k t never = elim (cases_Bool (t == 0)) [
 ]
 
 -- the journal of a single task
-single_journal : {N M : Type 0} (ruling : N → Ruling) (says : M → Says) (bs : List (BookOf N M)) (journal : List (ℕ × Entry)) (b : BookOf N M) → bs ≡ b ∷ [] → IsTaskJournal journal (games_of (tasks_of ruling says (openings bs))) →
+single_journal : {N M : Type 0} (ruling : N → Ruling) (says : M → Says) (bs : List (BookOf N M)) (journal : List (ℕ × Entry)) (b : BookOf N M) → bs ≡ b ∷ [] → IsTaskJournal journal (games_of (tasks_of_openings ruling says (openings bs))) →
     ((t : ℕ) (c : BookOf N M) → numbered bs t ≡ Some c → entries_of t journal ≡ c.journal) → journal ≡ of_task 1 b.journal
 single_journal {N} {M} ruling says bs journal b is legal own =
-    let here : IsTaskJournal journal (games_of (task_of ruling says b.opening ∷ [])) = subst (λ (l : List (BookOf N M)). IsTaskJournal journal (games_of (tasks_of ruling says (openings l)))) is legal in
+    let here : IsTaskJournal journal (games_of (task_of ruling says b.opening ∷ [])) = subst (λ (l : List (BookOf N M)). IsTaskJournal journal (games_of (tasks_of_openings ruling says (openings l)))) is legal in
     let mine : entries_of 1 journal ≡ b.journal = own 1 b (ap (λ (l : List (BookOf N M)). numbered l 1) is) in
     only_one journal (games_of (task_of ruling says b.opening ∷ [])) (λ t never. no_other (task_of ruling says b.opening) t never) here ∙ ap (of_task 1) mine
 
-pub only_book : {N M : Type 0} (ruling : N → Ruling) (says : M → Says) (bs rest : List (BookOf N M)) (journal : List (ℕ × Entry)) (capacity : ℕ) (b : BookOf N M) → AreKept ruling says bs journal capacity → length bs ≡ 1 → bs ≡ rest ++ b ∷ [] →
+pub only_book : {N M : Type 0} (ruling : N → Ruling) (says : M → Says) (bs rest : List (BookOf N M)) (journal : List (ℕ × Entry)) (capacity : ℕ) (b : BookOf N M) → AreBooksOf ruling says bs journal capacity → length bs ≡ 1 → bs ≡ rest ++ b ∷ [] →
     ◌≡◌ {A = BooksOf N M} (record { books = bs; journal = journal }) (record { books = b ∷ []; journal = of_task 1 b.journal })
 only_book {N} {M} ruling says bs rest journal capacity b kept one last =
     let is : bs ≡ b ∷ [] = alone_in bs rest b one last in

@@ -8,7 +8,7 @@ use Rattle.tournament.specs.Length.{IsMost, most_entries}
 use Rattle.board_book.specs.declared.entry.Entry.{Entry}
 use Rattle.board_book.specs.declared.book.Opening.{Opening}
 use Rattle.board_book.specs.Entries.{IsJournal, state_after}
-use Rattle.board_book.specs.Tasks.{BookOf, openings, tasks_of, numbered, games_of, IsTaskJournal, entries_of, Task, task_of, of_task, sayings_from}
+use Rattle.board_book.specs.Tasks.{BookOf, openings, tasks_of_openings, numbered, games_of, IsTaskJournal, entries_of, Task, task_of, of_task, sayings_from}
 use Rattle.bisect_game.specs.Rules.{Rules, ArePlayable, rules_of}
 use Rattle.rd_base.specs.declared.answer.Answer.{Answer}
 use Rattle.bisect_game.specs.declared.settled.Question.{Question}
@@ -35,10 +35,10 @@ module _ {N M : Type 0} where
   HasRoom [] n = n ≡ 0
   HasRoom (b ∷ bs) n = (k : ℕ) × IsMost b.opening.setup.fan b.opening.setup.bound k × (length b.journal ≤ most_entries b.opening.setup k) × ((m : ℕ) × (n ≡ most_entries b.opening.setup k + m) × HasRoom bs m)
 
-  pub record AreKept (ruling : N → Ruling) (says : M → Says) (books : List (BookOf N M)) (journal : List (ℕ × Entry)) (capacity : ℕ) : Type 0 where
+  pub record AreBooksOf (ruling : N → Ruling) (says : M → Says) (books : List (BookOf N M)) (journal : List (ℕ × Entry)) (capacity : ℕ) : Type 0 where
     pub some : 0 < length books
     pub eight : length books ≤ 8
-    pub legal : IsTaskJournal journal (games_of (tasks_of ruling says (openings books)))
+    pub legal : IsTaskJournal journal (games_of (tasks_of_openings ruling says (openings books)))
     pub own : (t : ℕ) (b : BookOf N M) → numbered books t ≡ Some b → entries_of t journal ≡ b.journal
     pub counted : length journal ≡ all_entries books
     pub room : HasRoom books capacity
@@ -62,8 +62,8 @@ module _ {N M : Type 0} where
 -- an opening has the number of its book, and a task the number of its opening, from 1 to their count
 pub record NumbersAgree {N M : Type 0} (ruling : N → Ruling) (says : M → Says) : Type 0 where
   pub book : (books : List (BookOf N M)) (t : ℕ) (b : BookOf N M) → numbered books t ≡ Some b → numbered (openings books) t ≡ Some b.opening
-  pub opening : (heads : List (Opening N M)) (t : ℕ) (h : Opening N M) → numbered heads t ≡ Some h → numbered (tasks_of ruling says heads) t ≡ Some (task_of ruling says h)
-  pub task : (heads : List (Opening N M)) (t : ℕ) (k : Task) → numbered (tasks_of ruling says heads) t ≡ Some k → (0 < t) × (t ≤ length heads)
+  pub opening : (heads : List (Opening N M)) (t : ℕ) (h : Opening N M) → numbered heads t ≡ Some h → numbered (tasks_of_openings ruling says heads) t ≡ Some (task_of ruling says h)
+  pub task : (heads : List (Opening N M)) (t : ℕ) (k : Task) → numbered (tasks_of_openings ruling says heads) t ≡ Some k → (0 < t) × (t ≤ length heads)
 
 -- the entries of a task are separated from those of others, block by block
 pub record AreToldApart : Type 0 where

@@ -48,8 +48,8 @@ module _ {N M : Type 0} where
   openings = map (λ (b : BookOf N M). b.opening)
 
   -- their tasks
-  abbrev pub tasks_of : (N → Ruling) → (M → Says) → List (Opening N M) → List Task
-  tasks_of ruling says = map (task_of ruling says)
+  abbrev pub tasks_of_openings : (N → Ruling) → (M → Says) → List (Opening N M) → List Task
+  tasks_of_openings ruling says = map (task_of ruling says)
 
 -- the element of a number, of a list that is counted from 1; None if there is none
 abbrev pub numbered : {A : Type 0} → List A → ℕ → Option A

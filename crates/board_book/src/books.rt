@@ -11,7 +11,7 @@ ghost use Rattle.tournament.specs.Posting.{answer_of};
 ghost use Rattle.bisect_game.specs.Rules.{rules_of};
 ghost use Rattle.board_book.specs.declared.entry.Entry.{Entry};
 ghost use Rattle.board_book.specs.Entries.{ask_on};
-ghost use Rattle.board_book.specs.Tasks.{numbered, games_of, IsTaskJournal, entries_of, BookOf, of_task, openings, tasks_of, sayings, PostedTo};
+ghost use Rattle.board_book.specs.Tasks.{numbered, games_of, IsTaskJournal, entries_of, BookOf, of_task, openings, tasks_of_openings, sayings, PostedTo};
 ghost use Rattle.board_book.specs.Keeping.{HasRoom, PlaysOn};
 
 use crate::book::Book;
@@ -35,13 +35,13 @@ pub struct Books<J: Judge + Drop, P: Provers + Drop> {
 impl<J: Judge + Drop, P: Provers + Drop> Model for Books<J, P> {
     ghost use Rattle.std.specs.Prelude.{vec_capacity};
     ghost use Rattle.board_book.specs.Tasks.{BooksOf};
-    ghost use Rattle.board_book.specs.Keeping.{AreKept};
+    ghost use Rattle.board_book.specs.Keeping.{AreBooksOf};
 
     ghost Value = { BooksOf J.Names P.Names };
 
     ghost view = { λ b. record { books = b.books.items; journal = b.journal.items } };
 
-    ghost invariant = { λ b. AreKept J.ruling P.says b.books.items b.journal.items (vec_capacity b.journal) };
+    ghost invariant = { λ b. AreBooksOf J.ruling P.says b.books.items b.journal.items (vec_capacity b.journal) };
 }
 
 /// The most entries of these books together.
@@ -162,7 +162,7 @@ impl<J: Judge + Drop, P: Provers + Drop> Books<J, P> {
     /// The journal is legal, and the entries of each task are the journal of its book.
     pub fn is_legal(&self)
         ensures some { 0 < length self.now.books }
-        ensures legal { IsTaskJournal self.now.journal (games_of (tasks_of J.ruling P.says (openings self.now.books))) }
+        ensures legal { IsTaskJournal self.now.journal (games_of (tasks_of_openings J.ruling P.says (openings self.now.books))) }
         ensures own { (t : ℕ) (b : BookOf J.Names P.Names) → numbered self.now.books t ≡ Some b → entries_of t self.now.journal ≡ b.journal }
     {
         let _ = &self.journal;

@@ -10,7 +10,7 @@ use Rattle.bisect_game.specs.Rules.{rules_of}
 use Rattle.board_book.specs.declared.book.Opening.{Opening}
 use Rattle.board_book.specs.declared.entry.Ask.{Ask}
 use Rattle.board_book.specs.declared.entry.Entry.{Entry}
-use Rattle.board_book.specs.Tasks.{Task, task_of, tasks_of}
+use Rattle.board_book.specs.Tasks.{Task, task_of, tasks_of_openings}
 use Rattle.seat_lock.specs.Seats.{Known}
 use Rattle.seat_lock.specs.Turned.{SameSeat}
 use Rattle.dispute_board.specs.declared.turns.Posted.{Posted}
@@ -67,21 +67,21 @@ module _ {H : Type 0} where
 
 module _ {N M : Type 0} (ruling : N → Ruling) (says : M → Says) where
   -- the only task is there, with its provers
-  pub only_there : (k : Known (List (Opening N M))) (head : Opening N M) (p : ℕ) → k.head ≡ Some (head ∷ []) → 0 < p → p ≤ head.setup.provers → (heads : List (Opening N M)) → k.head ≡ Some heads → IsThere (tasks_of ruling says heads) 1 p
+  pub only_there : (k : Known (List (Opening N M))) (head : Opening N M) (p : ℕ) → k.head ≡ Some (head ∷ []) → 0 < p → p ≤ head.setup.provers → (heads : List (Opening N M)) → k.head ≡ Some heads → IsThere (tasks_of_openings ruling says heads) 1 p
   only_there k head p is some few heads e =
-      subst (λ (hs : List (Opening N M)). IsThere (tasks_of ruling says hs) 1 p) (same_Some (head ∷ []) heads (sym is ∙ e)) (task_of ruling says head, refl, some, few)
+      subst (λ (hs : List (Opening N M)). IsThere (tasks_of_openings ruling says hs) 1 p) (same_Some (head ∷ []) heads (sym is ∙ e)) (task_of ruling says head, refl, some, few)
 
-  pub only_may : (k : Known (List (Opening N M))) (head : Opening N M) (p : ℕ) (qid : Qid) (m : Option Answer) → k.head ≡ Some (head ∷ []) → MayPost (rules_of (ruling head.judge) head.setup) (says head.provers) p qid m → (heads : List (Opening N M)) → k.head ≡ Some heads → MayPostFor (tasks_of ruling says heads) 1 p qid m
+  pub only_may : (k : Known (List (Opening N M))) (head : Opening N M) (p : ℕ) (qid : Qid) (m : Option Answer) → k.head ≡ Some (head ∷ []) → MayPost (rules_of (ruling head.judge) head.setup) (says head.provers) p qid m → (heads : List (Opening N M)) → k.head ≡ Some heads → MayPostFor (tasks_of_openings ruling says heads) 1 p qid m
   only_may k head p qid m is may heads e =
-      subst (λ (hs : List (Opening N M)). MayPostFor (tasks_of ruling says hs) 1 p qid m) (same_Some (head ∷ []) heads (sym is ∙ e))
+      subst (λ (hs : List (Opening N M)). MayPostFor (tasks_of_openings ruling says hs) 1 p qid m) (same_Some (head ∷ []) heads (sym is ∙ e))
       (λ j there. subst (λ (i : Task). MayPost i.rules i.says p qid m) (same_Some (task_of ruling says head) j there) may)
 
-  pub only_asks : (before after : Known (List (Opening N M))) (head : Opening N M) (p : ℕ) (ask : Ask) → before.head ≡ Some (head ∷ []) → (heads : List (Opening N M)) → before.head ≡ Some heads → AsksOnBoard (tasks_of ruling says heads) before 1 p ask after →
+  pub only_asks : (before after : Known (List (Opening N M))) (head : Opening N M) (p : ℕ) (ask : Ask) → before.head ≡ Some (head ∷ []) → (heads : List (Opening N M)) → before.head ≡ Some heads → AsksOnBoard (tasks_of_openings ruling says heads) before 1 p ask after →
       AsksOnBoard (task_of ruling says head ∷ []) (of_one before) 1 p ask (of_one after)
   only_asks before after head p ask is heads e a =
-      asks_of_one (task_of ruling says head ∷ []) before after 1 p ask (subst (λ (hs : List (Opening N M)). AsksOnBoard (tasks_of ruling says hs) before 1 p ask after) (same_Some heads (head ∷ []) (sym e ∙ is)) a)
+      asks_of_one (task_of ruling says head ∷ []) before after 1 p ask (subst (λ (hs : List (Opening N M)). AsksOnBoard (tasks_of_openings ruling says hs) before 1 p ask after) (same_Some heads (head ∷ []) (sym e ∙ is)) a)
 
-  pub only_posts : (before after : Known (List (Opening N M))) (head : Opening N M) (p : ℕ) (qid : Qid) (m : Option Answer) (posted : Posted) → before.head ≡ Some (head ∷ []) → (heads : List (Opening N M)) → before.head ≡ Some heads → PostsOnBoard (tasks_of ruling says heads) before 1 p qid m posted after →
+  pub only_posts : (before after : Known (List (Opening N M))) (head : Opening N M) (p : ℕ) (qid : Qid) (m : Option Answer) (posted : Posted) → before.head ≡ Some (head ∷ []) → (heads : List (Opening N M)) → before.head ≡ Some heads → PostsOnBoard (tasks_of_openings ruling says heads) before 1 p qid m posted after →
       PostsOnBoard (task_of ruling says head ∷ []) (of_one before) 1 p qid m posted (of_one after)
   only_posts before after head p qid m posted is heads e a =
-      posts_of_one (task_of ruling says head ∷ []) before after 1 p qid m posted (subst (λ (hs : List (Opening N M)). PostsOnBoard (tasks_of ruling says hs) before 1 p qid m posted after) (same_Some heads (head ∷ []) (sym e ∙ is)) a)
+      posts_of_one (task_of ruling says head ∷ []) before after 1 p qid m posted (subst (λ (hs : List (Opening N M)). PostsOnBoard (tasks_of_openings ruling says hs) before 1 p qid m posted after) (same_Some heads (head ∷ []) (sym e ∙ is)) a)

@@ -5,7 +5,7 @@ use Rattle.std.proofs.lemmas.List.{length-map}
 use Rattle.bisect_game.specs.Ruling.{Ruling}
 use Rattle.bisect_game.specs.Says.{Says, GiveOneAnswer}
 use Rattle.board_book.specs.declared.entry.Entry.{Entry}
-use Rattle.board_book.specs.Tasks.{Task, task_of, numbered, games_of, IsTaskJournal, entries_of, BookOf, tasks_of, openings, noted_for}
+use Rattle.board_book.specs.Tasks.{Task, task_of, numbered, games_of, IsTaskJournal, entries_of, BookOf, tasks_of_openings, openings, noted_for}
 use Rattle.rd_base.specs.declared.answer.Answer.{Answer}
 use Rattle.rd_base.specs.declared.answer.Qid.{Qid}
 use Rattle.bisect_game.specs.declared.settled.Question.{Question}
@@ -25,15 +25,15 @@ use Rattle.board_book.specs.Keeping.{NumbersAgree}
 use Rattle.dispute_board.proofs.Points.{due_says, same_qid-is}
 
 module _ {N M : Type 0} (ruling : N → Ruling) (says : M → Says) (law : NumbersAgree ruling says) where
-  task_there : (bs : List (BookOf N M)) (t : ℕ) (b : BookOf N M) → numbered bs t ≡ Some b → numbered (tasks_of ruling says (openings bs)) t ≡ Some (task_of ruling says b.opening)
+  task_there : (bs : List (BookOf N M)) (t : ℕ) (b : BookOf N M) → numbered bs t ≡ Some b → numbered (tasks_of_openings ruling says (openings bs)) t ≡ Some (task_of ruling says b.opening)
   task_there bs t b there = law.opening (openings bs) t b.opening (law.book bs t b there)
 
-  pub task_few : (bs : List (BookOf N M)) (t p : ℕ) → IsThere (tasks_of ruling says (openings bs)) t p → (0 < t) × (t ≤ length bs)
+  pub task_few : (bs : List (BookOf N M)) (t p : ℕ) → IsThere (tasks_of_openings ruling says (openings bs)) t p → (0 < t) × (t ≤ length bs)
   task_few bs t p there =
       let within = law.task (openings bs) t there.0 there.1 in
       (within.0, subst (λ (n : ℕ). t ≤ n) (length-map bs (λ (b : BookOf N M). b.opening)) within.1)
 
-  pub provers_few : (bs : List (BookOf N M)) (t p : ℕ) (b : BookOf N M) → IsThere (tasks_of ruling says (openings bs)) t p → numbered bs t ≡ Some b → p ≤ b.opening.setup.provers
+  pub provers_few : (bs : List (BookOf N M)) (t p : ℕ) (b : BookOf N M) → IsThere (tasks_of_openings ruling says (openings bs)) t p → numbered bs t ≡ Some b → p ≤ b.opening.setup.provers
   provers_few bs t p b there e =
       let is : b.opening.setup.provers ≡ there.0.rules.setup.provers = ap (λ (k : Task). k.rules.setup.provers) (same_Some (task_of ruling says b.opening) there.0 (sym (task_there bs t b e) ∙ there.1)) in
       let few : p ≤ there.0.rules.setup.provers = there.3 in
@@ -47,8 +47,8 @@ module _ {N M : Type 0} (ruling : N → Ruling) (says : M → Says) (law : Numbe
       own_state (task_of ruling says b.opening) t journal ≡ b.game
   own_is bs journal t b own state = ap (state_after (rules_of (ruling b.opening.judge) b.opening.setup) (says b.opening.provers)) own ∙ state
 
-  pub asks_task : (bs : List (BookOf N M)) (journal : List (ℕ × Entry)) (t p : ℕ) (b : BookOf N M) (a : Ask) → numbered bs t ≡ Some b → 0 < p → IsTaskJournal journal (games_of (tasks_of ruling says (openings bs))) → entries_of t journal ≡ b.journal →
-      state_after (rules_of (ruling b.opening.judge) b.opening.setup) (says b.opening.provers) b.journal ≡ b.game → a ≡ ask_in (rules_of (ruling b.opening.judge) b.opening.setup) b.game p → AsksTheCase (rules_of (ruling b.opening.judge) b.opening.setup) (says b.opening.provers) b.game p → Asks (tasks_of ruling says (openings bs)) journal t p a
+  pub asks_task : (bs : List (BookOf N M)) (journal : List (ℕ × Entry)) (t p : ℕ) (b : BookOf N M) (a : Ask) → numbered bs t ≡ Some b → 0 < p → IsTaskJournal journal (games_of (tasks_of_openings ruling says (openings bs))) → entries_of t journal ≡ b.journal →
+      state_after (rules_of (ruling b.opening.judge) b.opening.setup) (says b.opening.provers) b.journal ≡ b.game → a ≡ ask_in (rules_of (ruling b.opening.judge) b.opening.setup) b.game p → AsksTheCase (rules_of (ruling b.opening.judge) b.opening.setup) (says b.opening.provers) b.game p → Asks (tasks_of_openings ruling says (openings bs)) journal t p a
   asks_task bs journal t p b a there some legal own state is case =
       let k : Task = task_of ruling says b.opening in
       let same : b.game ≡ own_state k t journal = sym (own_is bs journal t b own state) in
@@ -60,10 +60,10 @@ module _ {N M : Type 0} (ruling : N → Ruling) (says : M → Says) (law : Numbe
         asked = subst (λ (s : MatchState). AsksTheCase k.rules k.says s p) same case;
       }
 
-  pub posts_task : (bs : List (BookOf N M)) (journal left : List (ℕ × Entry)) (t p : ℕ) (qid : Qid) (m : Option Answer) (posted : Posted) (b : BookOf N M) → numbered bs t ≡ Some b → GiveOneAnswer (says b.opening.provers) → IsTaskJournal journal (games_of (tasks_of ruling says (openings bs))) →
-      IsTaskJournal left (games_of (tasks_of ruling says (openings bs))) → entries_of t journal ≡ b.journal → state_after (rules_of (ruling b.opening.judge) b.opening.setup) (says b.opening.provers) b.journal ≡ b.game → posted.reply ≡ reply_in (rules_of (ruling b.opening.judge) b.opening.setup) (says b.opening.provers) b.game p qid m →
+  pub posts_task : (bs : List (BookOf N M)) (journal left : List (ℕ × Entry)) (t p : ℕ) (qid : Qid) (m : Option Answer) (posted : Posted) (b : BookOf N M) → numbered bs t ≡ Some b → GiveOneAnswer (says b.opening.provers) → IsTaskJournal journal (games_of (tasks_of_openings ruling says (openings bs))) →
+      IsTaskJournal left (games_of (tasks_of_openings ruling says (openings bs))) → entries_of t journal ≡ b.journal → state_after (rules_of (ruling b.opening.judge) b.opening.setup) (says b.opening.provers) b.journal ≡ b.game → posted.reply ≡ reply_in (rules_of (ruling b.opening.judge) b.opening.setup) (says b.opening.provers) b.game p qid m →
       left ≡ noted_for t journal (record { p = p; qid = qid; pass = is_none m; reply = posted.reply }) → posted.receipt ≡ receipt_of posted.reply (length journal) → AsksTheCase (rules_of (ruling b.opening.judge) b.opening.setup) (says b.opening.provers) b.game p →
-      Posts (tasks_of ruling says (openings bs)) journal t p qid m posted left
+      Posts (tasks_of_openings ruling says (openings bs)) journal t p qid m posted left
   posts_task bs journal left t p qid m posted b there one legal legal_after own state is notes receipt case =
       let k : Task = task_of ruling says b.opening in
       let same : b.game ≡ own_state k t journal = sym (own_is bs journal t b own state) in
@@ -80,7 +80,7 @@ module _ {N M : Type 0} (ruling : N → Ruling) (says : M → Says) (law : Numbe
       }
 
   -- a move that may be posted and is due is what the prover says
-  pub says_due : (bs : List (BookOf N M)) (t p : ℕ) (qid : Qid) (m : Option Answer) (b x : BookOf N M) → GiveOneAnswer (says b.opening.provers) → numbered bs t ≡ Some b → numbered bs t ≡ Some x → MayPostFor (tasks_of ruling says (openings bs)) t p qid m →
+  pub says_due : (bs : List (BookOf N M)) (t p : ℕ) (qid : Qid) (m : Option Answer) (b x : BookOf N M) → GiveOneAnswer (says b.opening.provers) → numbered bs t ≡ Some b → numbered bs t ≡ Some x → MayPostFor (tasks_of_openings ruling says (openings bs)) t p qid m →
       AsksTheCase (rules_of (ruling b.opening.judge) b.opening.setup) (says b.opening.provers) b.game p → undue (says b.opening.provers) b.game p m (open_question (rules_of (ruling b.opening.judge) b.opening.setup) b.game.record_ p) ≡ None →
       (q : Question) → open_question (rules_of (ruling x.opening.judge) x.opening.setup) x.game.record_ p ≡ Some q → same_qid q.qid qid ≡ true → m ≡ says x.opening.provers p q (passes_of x.game p)
   says_due bs t p qid m b x one there here may case due =

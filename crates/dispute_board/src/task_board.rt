@@ -5,7 +5,7 @@ ghost use Rattle.seat_lock.specs.History.{log_of, Begins, NoneTwice};
 ghost use Rattle.seat_lock.specs.Seats.{IfMade, AreEachOnce, first_seat, after_split, split_off, after_join};
 ghost use Rattle.board_book.specs.declared.book.Opening.{Opening};
 ghost use Rattle.tournament.specs.Posting.{answer_of};
-ghost use Rattle.board_book.specs.Tasks.{openings, tasks_of};
+ghost use Rattle.board_book.specs.Tasks.{openings, tasks_of_openings};
 ghost use Rattle.dispute_board.specs.OneHistory.{log_of_journal, MayPostFor, IsThere, AsksOnBoard, PostsOnBoard};
 
 use crate::turns::{Asking, Locked, Posted, Posting};
@@ -55,8 +55,8 @@ impl<J: Judge + Drop, P: Provers + Drop> TaskBoard<J, P> {
     /// which the task's own entries decide.
     pub fn ask<R: Wait>(&self, rt: &R, seat: &mut TaskSeat<J, P>, t: u32, p: u32) -> Ask
         requires lock { seat.old.lock ≡ self.now }
-        requires there { (heads : List (Opening J.Names P.Names)) → seat.old.head ≡ Some heads → IsThere (tasks_of J.ruling P.says heads) t p }
-        ensures { (heads : List (Opening J.Names P.Names)) × (seat.old.head ≡ Some heads) × AsksOnBoard (tasks_of J.ruling P.says heads) seat.old t p result seat.new }
+        requires there { (heads : List (Opening J.Names P.Names)) → seat.old.head ≡ Some heads → IsThere (tasks_of_openings J.ruling P.says heads) t p }
+        ensures { (heads : List (Opening J.Names P.Names)) × (seat.old.head ≡ Some heads) × AsksOnBoard (tasks_of_openings J.ruling P.says heads) seat.old t p result seat.new }
     {
         self.lock.with_turn(rt, seat, Asking { t, p })
     }
@@ -76,9 +76,9 @@ impl<J: Judge + Drop, P: Provers + Drop> TaskBoard<J, P> {
         turn: Move,
     ) -> Posted
         requires lock { seat.old.lock ≡ self.now }
-        requires there { (heads : List (Opening J.Names P.Names)) → seat.old.head ≡ Some heads → IsThere (tasks_of J.ruling P.says heads) t p }
-        requires may { (heads : List (Opening J.Names P.Names)) → seat.old.head ≡ Some heads → MayPostFor (tasks_of J.ruling P.says heads) t p qid (answer_of turn) }
-        ensures { (heads : List (Opening J.Names P.Names)) × (seat.old.head ≡ Some heads) × PostsOnBoard (tasks_of J.ruling P.says heads) seat.old t p qid (answer_of turn) result seat.new }
+        requires there { (heads : List (Opening J.Names P.Names)) → seat.old.head ≡ Some heads → IsThere (tasks_of_openings J.ruling P.says heads) t p }
+        requires may { (heads : List (Opening J.Names P.Names)) → seat.old.head ≡ Some heads → MayPostFor (tasks_of_openings J.ruling P.says heads) t p qid (answer_of turn) }
+        ensures { (heads : List (Opening J.Names P.Names)) × (seat.old.head ≡ Some heads) × PostsOnBoard (tasks_of_openings J.ruling P.says heads) seat.old t p qid (answer_of turn) result seat.new }
     {
         self.lock.with_turn(rt, seat, Posting { t, p, qid, turn })
     }

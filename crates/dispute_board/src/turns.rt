@@ -3,7 +3,7 @@ ghost use Rattle.std.specs.Prelude.{◌≡◌, ◌<◌, ◌≤◌};
 ghost use Rattle.tournament.specs.Bracket.{open_question};
 ghost use Rattle.tournament.specs.Posting.{answer_of};
 ghost use Rattle.bisect_game.specs.Rules.{rules_of};
-ghost use Rattle.board_book.specs.Tasks.{openings, tasks_of};
+ghost use Rattle.board_book.specs.Tasks.{openings, tasks_of_openings};
 ghost use Rattle.dispute_board.specs.OneHistory.{MayPostFor, IsThere, receipt_of};
 ghost use Rattle.dispute_board.specs.Turns.{Asks, Posts, undue};
 
@@ -65,15 +65,15 @@ pub struct Asking {
 
 impl<J: Judge + Drop, P: Provers + Drop> Job<Locked<J, P>> for Asking {
     ghost use Rattle.std.specs.Prelude.{◌≡◌};
-    ghost use Rattle.board_book.specs.Tasks.{openings, tasks_of};
+    ghost use Rattle.board_book.specs.Tasks.{openings, tasks_of_openings};
     ghost use Rattle.dispute_board.specs.OneHistory.{IsThere};
     ghost use Rattle.dispute_board.specs.Turns.{Asks};
 
     type Out = Ask;
 
-    ghost fits = { λ job heads. IsThere (tasks_of J.ruling P.says heads) job.t job.p };
+    ghost fits = { λ job heads. IsThere (tasks_of_openings J.ruling P.says heads) job.t job.p };
 
-    ghost does = { λ job found left ask. (left ≡ found) × Asks (tasks_of J.ruling P.says (openings found.books.books)) found.books.journal job.t job.p ask };
+    ghost does = { λ job found left ask. (left ≡ found) × Asks (tasks_of_openings J.ruling P.says (openings found.books.books)) found.books.journal job.t job.p ask };
 
     fn act(self, locked: &mut Locked<J, P>) -> Ask {
         let books = &locked.books;
@@ -125,15 +125,15 @@ fn undue_on<J: Judge + Drop, P: Provers + Drop>(book: &Book<J, P>, post: &Postin
 impl<J: Judge + Drop, P: Provers + Drop> Job<Locked<J, P>> for Posting {
     ghost use Rattle.std.specs.Prelude.{◌≡◌};
     ghost use Rattle.tournament.specs.Posting.{answer_of};
-    ghost use Rattle.board_book.specs.Tasks.{openings, tasks_of};
+    ghost use Rattle.board_book.specs.Tasks.{openings, tasks_of_openings};
     ghost use Rattle.dispute_board.specs.OneHistory.{MayPostFor, IsThere};
     ghost use Rattle.dispute_board.specs.Turns.{Posts};
 
     type Out = Posted;
 
-    ghost fits = { λ job heads. IsThere (tasks_of J.ruling P.says heads) job.t job.p × MayPostFor (tasks_of J.ruling P.says heads) job.t job.p job.qid (answer_of job.turn) };
+    ghost fits = { λ job heads. IsThere (tasks_of_openings J.ruling P.says heads) job.t job.p × MayPostFor (tasks_of_openings J.ruling P.says heads) job.t job.p job.qid (answer_of job.turn) };
 
-    ghost does = { λ job found left posted. (openings left.books.books ≡ openings found.books.books) × Posts (tasks_of J.ruling P.says (openings found.books.books)) found.books.journal job.t job.p job.qid (answer_of job.turn) posted left.books.journal };
+    ghost does = { λ job found left posted. (openings left.books.books ≡ openings found.books.books) × Posts (tasks_of_openings J.ruling P.says (openings found.books.books)) found.books.journal job.t job.p job.qid (answer_of job.turn) posted left.books.journal };
 
     fn act(self, locked: &mut Locked<J, P>) -> Posted {
         let books = &mut locked.books;

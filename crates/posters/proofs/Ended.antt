@@ -19,7 +19,7 @@ use Rattle.seat_lock.specs.Seats.{Known}
 use Rattle.board_book.specs.declared.book.Opening.{Opening}
 use Rattle.board_book.specs.declared.entry.Entry.{Entry}
 use Rattle.board_book.specs.Entries.{IsJournal, who}
-use Rattle.board_book.specs.Tasks.{Task, numbered, begun_game, games_of, tasks_of, IsTaskJournal, entries_of}
+use Rattle.board_book.specs.Tasks.{Task, numbered, begun_game, games_of, tasks_of_openings, IsTaskJournal, entries_of}
 use Rattle.board_book.specs.Alone.{TasksAreAlone}
 use Rattle.board_book.specs.Keeping.{AreToldApart}
 use Rattle.dispute_board.specs.OneHistory.{StartsTellJournals, own_state}
@@ -84,7 +84,7 @@ module _ {N M : Type 0} (ruling : N → Ruling) (says : M → Says) where
       SeesOver ruling says before t → SeesOver ruling says after u → SeesOver ruling says after t
   still_over alone apart tell before after t u same more s now =
       let heads : now.heads ≡ s.heads = same_Some now.heads s.heads (sym now.head_is ∙ same ∙ s.head_is) in
-      let legal : IsTaskJournal now.journal (games_of (tasks_of ruling says s.heads)) = subst (λ (hs : List (Opening N M)). IsTaskJournal now.journal (games_of (tasks_of ruling says hs))) heads now.legal in
+      let legal : IsTaskJournal now.journal (games_of (tasks_of_openings ruling says s.heads)) = subst (λ (hs : List (Opening N M)). IsTaskJournal now.journal (games_of (tasks_of_openings ruling says hs))) heads now.legal in
       let begins : Begins s.journal now.journal = tell s.journal now.journal (more.0, sym now.seen ∙ more.1 ∙ ap (λ (l : List (List ℕ)). l ++ more.0) s.seen) in
       record {
         heads = s.heads;
@@ -94,7 +94,7 @@ module _ {N M : Type 0} (ruling : N → Ruling) (says : M → Says) where
         journal = now.journal;
         legal = legal;
         seen = now.seen;
-        over = ap (λ (st : MatchState). is_complete st.record_) (same_state alone apart (tasks_of ruling says s.heads) t s.task s.journal now.journal s.there legal begins s.over) ∙ s.over;
+        over = ap (λ (st : MatchState). is_complete st.record_) (same_state alone apart (tasks_of_openings ruling says s.heads) t s.task s.journal now.journal s.there legal begins s.over) ∙ s.over;
       }
 
   -- one prover more, whose match is over: the seat sees all so far to be over, if it saw those before

@@ -11,7 +11,7 @@ use Rattle.bisect_game.specs.Ruling.{Ruling}
 use Rattle.bisect_game.specs.Says.{Says, AnswerAs}
 use Rattle.board_book.specs.declared.book.Opening.{Opening}
 use Rattle.board_book.specs.declared.entry.Entry.{Entry}
-use Rattle.board_book.specs.Tasks.{Task, task_of, BookOf, openings, tasks_of, numbered, entries_of, of_task, sayings_from, sayings}
+use Rattle.board_book.specs.Tasks.{Task, task_of, BookOf, openings, tasks_of_openings, numbered, entries_of, of_task, sayings_from, sayings}
 use Rattle.board_book.specs.Keeping.{NumbersAgree, AreToldApart, SayInOrder}
 use Rattle.dispute_board.specs.OneHistory.{IsThere}
 use Rattle.posters.specs.declared.playing.Place.{Place}
@@ -91,10 +91,10 @@ module _ {N M : Type 0} (says : M → Says) where
 
 module _ {N M : Type 0} (ruling : N → Ruling) (says : M → Says) (law : NumbersAgree ruling says) where
   -- a prover that is there
-  pub is_there : (heads : List (Opening N M)) (x : Place) (said : Saying) → IsProverAt says heads x said → IsThere (tasks_of ruling says heads) x.task x.prover
+  pub is_there : (heads : List (Opening N M)) (x : Place) (said : Saying) → IsProverAt says heads x said → IsThere (tasks_of_openings ruling says heads) x.task x.prover
   is_there heads x said p = (task_of ruling says p.head, law.opening heads x.task p.head p.there, p.some, p.few)
 
-  pub task_same : (heads : List (Opening N M)) (x : Place) (said : Saying) (k : Task) → (p : IsProverAt says heads x said) → numbered (tasks_of ruling says heads) x.task ≡ Some k → task_of ruling says p.head ≡ k
+  pub task_same : (heads : List (Opening N M)) (x : Place) (said : Saying) (k : Task) → (p : IsProverAt says heads x said) → numbered (tasks_of_openings ruling says heads) x.task ≡ Some k → task_of ruling says p.head ≡ k
   task_same heads x said k p e = same_Some (task_of ruling says p.head) k (sym (law.opening heads x.task p.head p.there) ∙ e)
 
 -- a list by its numbers

@@ -11,17 +11,17 @@ use Rattle.board_book.specs.declared.book.Opening.{Opening}
 use Rattle.board_book.specs.Keeping.{NumbersAgree}
 use Rattle.dispute_board.specs.OneHistory.{IsOfTheCase, MayPostFor, SaidMayBePosted}
 use Rattle.bisect_game.specs.Ruling.{Ruling}
-use Rattle.board_book.specs.Tasks.{Task, task_of, numbered, tasks_of}
+use Rattle.board_book.specs.Tasks.{Task, task_of, numbered, tasks_of_openings}
 use Rattle.posters.specs.declared.playing.Place.{Place}
-use Rattle.posters.specs.Serving.{kept_of, IsSeatOf, KnowsStart, IsProverAt}
+use Rattle.posters.specs.Serving.{staying_part_of, IsSeatOf, KnowsStart, IsProverAt}
 use Rattle.posters.proofs.Numbering.{task_same}
 
 -- what the prover of a place says to a question that its task's case asks may be posted for it
 pub may_post_for : {N M : Type 0} (ruling : N → Ruling) (says : M → Says) → NumbersAgree ruling says → SaidMayBePosted → (heads : List (Opening N M)) (x : Place) (said : Question → ℕ → Option Answer) (q : Question) (n : ℕ) (m : Option Answer) → IsProverAt says heads x said →
-    (k : Task) → numbered (tasks_of ruling says heads) x.task ≡ Some k → IsOfTheCase k.rules k.says x.prover q → m ≡ said q n → MayPostFor (tasks_of ruling says heads) x.task x.prover q.qid m
+    (k : Task) → numbered (tasks_of_openings ruling says heads) x.task ≡ Some k → IsOfTheCase k.rules k.says x.prover q → m ≡ said q n → MayPostFor (tasks_of_openings ruling says heads) x.task x.prover q.qid m
 may_post_for ruling says law may heads x said q n m p k there asked same =
     let one : task_of ruling says p.head ≡ k = task_same ruling says law heads x said k p there in
-    may (tasks_of ruling says heads) x.task x.prover k q n m there asked (same ∙ (ap (λ (f : Question → ℕ → Option Answer). f q n) p.says_it ∙ ap (λ (j : Task). j.says x.prover q n) one))
+    may (tasks_of_openings ruling says heads) x.task x.prover k q n m there asked (same ∙ (ap (λ (f : Question → ℕ → Option Answer). f q n) p.says_it ∙ ap (λ (j : Task). j.says x.prover q n) one))
 
 pub log_of-turns_of : (log : List LogEntry) → log_of (turns_of log) ≡ log
 log_of-turns_of [] = refl
@@ -32,7 +32,7 @@ All-first P [] ys h = All-nil P
 All-first P (x ∷ xs) ys h = All-cons P x xs (All-head P x (xs ++ ys) h) (All-first P xs ys (All-tail P x (xs ++ ys) h))
 
 module _ {H : Type 0} where
-  pub seat_again : (board : LockId) (head : H) (before after : Known H) → kept_of after ≡ kept_of before → IsSeatOf board head before → IsSeatOf board head after
+  pub seat_again : (board : LockId) (head : H) (before after : Known H) → staying_part_of after ≡ staying_part_of before → IsSeatOf board head before → IsSeatOf board head after
   seat_again board head before after e s = record {
     lock = ap (λ (k : Known H). k.lock) e ∙ s.lock;
     head_is = ap (λ (k : Known H). k.head) e ∙ s.head_is;

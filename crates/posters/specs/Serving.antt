@@ -11,7 +11,7 @@ use Rattle.seat_lock.specs.History.{LogEntry, log_of, Begins}
 use Rattle.seat_lock.specs.Seats.{LockId, Known}
 use Rattle.board_book.specs.declared.book.Opening.{Opening}
 use Rattle.board_book.specs.declared.entry.Entry.{Entry}
-use Rattle.board_book.specs.Tasks.{Task, tasks_of, games_of, IsTaskJournal, numbered, sayings}
+use Rattle.board_book.specs.Tasks.{Task, tasks_of_openings, games_of, IsTaskJournal, numbered, sayings}
 use Rattle.dispute_board.specs.OneHistory.{log_of_journal, own_state}
 use Rattle.posters.specs.declared.playing.Place.{Place}
 
@@ -43,8 +43,8 @@ pub record IsProverAt {N M : Type 0} (says : M → Says) (heads : List (Opening 
 
 module _ {H : Type 0} where
   -- what no turn changes of a seat
-  abbrev pub kept_of : Known H → Known H
-  kept_of k = record k { seen = []; joined = []; receipts = []; turns = 0 }
+  abbrev pub staying_part_of : Known H → Known H
+  staying_part_of k = record k { seen = []; joined = []; receipts = []; turns = 0 }
 
   -- a seat at this board with this head
   pub record IsSeatOf (board : LockId) (head : H) (k : Known H) : Type 0 where
@@ -67,9 +67,9 @@ pub record SeesOver {N M : Type 0} (ruling : N → Ruling) (says : M → Says) (
   pub heads : List (Opening N M)
   pub head_is : k.head ≡ Some heads
   pub task : Task
-  pub there : numbered (tasks_of ruling says heads) t ≡ Some task
+  pub there : numbered (tasks_of_openings ruling says heads) t ≡ Some task
   pub journal : List (ℕ × Entry)
-  pub legal : IsTaskJournal journal (games_of (tasks_of ruling says heads))
+  pub legal : IsTaskJournal journal (games_of (tasks_of_openings ruling says heads))
   pub seen : log_of k.seen ≡ log_of_journal journal
   pub over : is_complete (own_state task t journal).record_ ≡ true
 

@@ -10,7 +10,7 @@ ghost use Rattle.std.specs.List.{All};
 ghost use Rattle.std.specs.Thread.{IsSync};
 ghost use Rattle.seat_lock.specs.History.{log_of, Begins};
 ghost use Rattle.board_book.specs.declared.book.Opening.{Opening};
-ghost use Rattle.posters.specs.Serving.{kept_of, IsSeatOf, IsProverAt, MayServe, SeesOver, SeesOverOf};
+ghost use Rattle.posters.specs.Serving.{staying_part_of, IsSeatOf, IsProverAt, MayServe, SeesOver, SeesOverOf};
 
 use crate::playing::{Place, TaskGate};
 use crate::round_robin::ClassServer;
@@ -179,7 +179,7 @@ impl<'g, J: Judge + Drop, P: Provers + Drop, G: TaskGate> Hall<'g, J, P, G> {
     ) -> Turn
         requires sync { IsSync R.row }
         requires seat { (heads : List (Opening J.Names P.Names)) × IsSeatOf self.now.board heads seat.old × IsProverAt P.says heads place (A.answers answerer.old) }
-        ensures seat { kept_of seat.new ≡ kept_of seat.old }
+        ensures seat { staying_part_of seat.new ≡ staying_part_of seat.old }
         ensures seen { Begins (log_of seat.old.seen) (log_of seat.new.seen) }
         ensures answerer { A.answers answerer.new ≡ A.answers answerer.old }
         ensures over { result ≡ Turn.Over → SeesOver J.ruling P.says seat.new place.task }
@@ -216,7 +216,7 @@ impl<'g, J: Judge + Drop, P: Provers + Drop, G: TaskGate> Hall<'g, J, P, G> {
     ) -> Turn
         requires sync { IsSync R.row }
         requires seat { MayServe P.says self.now.board self.now.places.items seat.old numbers.now (map A.answers answerers.old) }
-        ensures seat { kept_of seat.new ≡ kept_of seat.old }
+        ensures seat { staying_part_of seat.new ≡ staying_part_of seat.old }
         ensures answerers { map A.answers answerers.new ≡ map A.answers answerers.old }
         ensures over { result ≡ Turn.Over → All (SeesOverOf J.ruling P.says self.now.places.items seat.new) numbers.now }
         ensures none { numbers.now ≡ [] → result ≡ Turn.Over }
@@ -264,7 +264,7 @@ impl<'g, J: Judge + Drop, P: Provers + Drop, G: TaskGate> Hall<'g, J, P, G> {
     ) -> Turn
         requires sync { IsSync R.row }
         requires seat { MayServe P.says self.now.board self.now.places.items seat.old numbers.now (map A.answers answerers.old) }
-        ensures seat { kept_of seat.new ≡ kept_of seat.old }
+        ensures seat { staying_part_of seat.new ≡ staying_part_of seat.old }
         ensures answerers { map A.answers answerers.new ≡ map A.answers answerers.old }
         ensures over { result ≡ Turn.Over → All (SeesOverOf J.ruling P.says self.now.places.items seat.new) numbers.now }
     {
@@ -295,7 +295,7 @@ impl<'g, J: Judge + Drop, P: Provers + Drop, G: TaskGate> Hall<'g, J, P, G> {
     ) -> bool
         requires sync { IsSync R.row }
         requires seat { MayServe P.says self.now.board self.now.places.items seat.old numbers.now (map A.answers answerers.old) }
-        ensures seat { kept_of seat.new ≡ kept_of seat.old }
+        ensures seat { staying_part_of seat.new ≡ staying_part_of seat.old }
         ensures answerers { map A.answers answerers.new ≡ map A.answers answerers.old }
         ensures over { IsTrue result → All (SeesOverOf J.ruling P.says self.now.places.items seat.new) numbers.now }
     {
@@ -319,13 +319,13 @@ impl<'g, J: Judge + Drop, P: Provers + Drop, A: Answerer, G: TaskGate> ClassServ
     ghost use Rattle.bisect_game.specs.declared.settled.Question.{Question};
     ghost use Rattle.board_book.specs.declared.book.Opening.{Opening};
     ghost use Rattle.seat_lock.specs.Seats.{Known};
-    ghost use Rattle.posters.specs.Serving.{places_from, kept_of, IsSeatOf, saying_of};
+    ghost use Rattle.posters.specs.Serving.{places_from, staying_part_of, IsSeatOf, saying_of};
 
     ghost Kept = { Known (List (Opening J.Names P.Names)) × ℕ };
 
     ghost Meaning = { Question → ℕ → Option Answer };
 
-    ghost stays = { λ poster. (kept_of poster.seat, poster.class) };
+    ghost stays = { λ poster. (staying_part_of poster.seat, poster.class) };
 
     ghost meaning = { A.answers };
 

@@ -6,7 +6,7 @@ use Rattle.atomic_table.specs.Table.{Me, step, keeps, Allows}
 use Rattle.atomic_table.proofs.Lists.{at_longer, at_last}
 use Rattle.seat_lock.specs.View.{View}
 use Rattle.seat_lock.specs.History.{LogEntry, log_of}
-use Rattle.seat_lock.specs.Rule.{word_size, weight, holds_ticket, Fits}
+use Rattle.seat_lock.specs.Rule.{word_size, weight, holds_ticket, FitsAt}
 use Rattle.seat_lock.specs.Views.{with_ticket, Draws}
 use Rattle.seat_lock.proofs.Histories.{some-injective_or, some≢none}
 use Rattle.seat_lock.proofs.Totals.{total-set}
@@ -29,7 +29,7 @@ module _ {T H : Type 0} (head : T → H) (log : T → List LogEntry) where
           serving = r.serving;
           words = ap (λ ws. set ws 0 ((get_or ws 0 0 + 1) % word_size)) r.words
               ∙ ap (λ (k : ℕ). k ∷ r.serving ∷ []) (mod-add-mod (r.serving + length r.queue) word_size 1 ∙ ap (λ (k : ℕ). k % word_size) longer);
-          each = each-set head log (Fits r.at r.began (r.queue ++ id ∷ []) r.history r.serving s.homes) s.views id w
+          each = each-set head log (FitsAt r.at r.began (r.queue ++ id ∷ []) r.history r.serving s.homes) s.views id w
               record {
                 headed = old.headed;
                 knows = old.knows;

@@ -7,7 +7,7 @@ use Rattle.atomic_table.specs.Table.{rest, Me, step, gives, stepped, Allows}
 use Rattle.atomic_table.proofs.Lists.{set_here, drop_at}
 use Rattle.seat_lock.specs.View.{View}
 use Rattle.seat_lock.specs.History.{LogEntry, Turn, History, log_of, GrowsByAtMostOne, Begins, times, with_receipt, NoneTwice}
-use Rattle.seat_lock.specs.Rule.{word_size, weight, holds_ticket, Fits}
+use Rattle.seat_lock.specs.Rule.{word_size, weight, holds_ticket, FitsAt}
 use Rattle.seat_lock.specs.Views.{InTurn, after_turn, Ends}
 use Rattle.seat_lock.proofs.Histories.{some≢none, begins-itself, begins-append, log_of-adds, log_of-idle}
 use Rattle.seat_lock.proofs.Totals.{total-set, below-length, next_place}
@@ -43,7 +43,7 @@ module _ {T H : Type 0} (head : T → H) (log : T → List LogEntry) where
         history = history';
         serving = serving';
         words = ap (λ ws. set ws 1 ((get_or ws 1 0 + 1) % word_size)) r.words ∙ ap (λ (k : ℕ). k ∷ serving' ∷ []) (ap (λ (k : ℕ). (r.serving + k) % word_size) long ∙ next_place r.serving (length q));
-        each = each-set head log (Fits r.at r.began q history' serving' hs) s.views id w
+        each = each-set head log (FitsAt r.at r.began q history' serving' hs) s.views id w
             record {
               headed = λ h e. let v = old.headed h e in (v.0, subst (λ l. Begins (me.0.seen ++ turn ∷ []) (l ++ turn ∷ [])) now.1 (begins-itself (me.0.seen ++ turn ∷ [])), λ k d b. more _ (v.2 k d b));
               knows = old.knows;

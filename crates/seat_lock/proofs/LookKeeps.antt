@@ -10,7 +10,7 @@ use Rattle.atomic_table.specs.Table.{Me, step, keeps, takes, stepped, Allows}
 use Rattle.atomic_table.proofs.Lists.{set_here}
 use Rattle.seat_lock.specs.View.{View}
 use Rattle.seat_lock.specs.History.{LogEntry, log_of, Begins}
-use Rattle.seat_lock.specs.Rule.{word_size, holds_ticket, NoneInTurn, Fits}
+use Rattle.seat_lock.specs.Rule.{word_size, holds_ticket, NoneInTurn, FitsAt}
 use Rattle.seat_lock.specs.Views.{InTurn, with_served, at_turn, LooksAt}
 use Rattle.seat_lock.proofs.Histories.{some-injective_or, some≢none, begins-itself}
 use Rattle.seat_lock.proofs.Totals.{total-set_same, below-length}
@@ -44,7 +44,7 @@ module _ {T H : Type 0} (head : T → H) (log : T → List LogEntry) where
           history = r.history;
           serving = r.serving;
           words = set-get_or s.words 1 0 ∙ r.words;
-          each = each-set head log (Fits r.at r.began r.queue r.history r.serving s.homes) s.views id w
+          each = each-set head log (FitsAt r.at r.began r.queue r.history r.serving s.homes) s.views id w
               record {
                 headed = old.headed;
                 knows = old.knows;
@@ -71,7 +71,7 @@ module _ {T H : Type 0} (head : T → H) (log : T → List LogEntry) where
       history = r.history;
       serving = r.serving;
       words = set-get_or s.words 1 0 ∙ r.words;
-      each = each-set head log (Fits r.at r.began r.queue r.history r.serving (set s.homes 0 none)) s.views id w
+      each = each-set head log (FitsAt r.at r.began r.queue r.history r.serving (set s.homes 0 none)) s.views id w
           record {
             headed = λ h e. ((old.headed h e).0, begins-itself r.history, All-nil (λ seen. Begins seen r.history));
             knows = old.knows;

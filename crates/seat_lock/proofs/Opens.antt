@@ -9,7 +9,7 @@ use Rattle.std.proofs.lemmas.List.Elements.{All-nil}
 use Rattle.atomic_table.specs.Table.{opening, Final, Seen}
 use Rattle.seat_lock.specs.View.{View}
 use Rattle.seat_lock.specs.History.{LogEntry, History, log_of, turns_of, Begins, times, NoneTwice}
-use Rattle.seat_lock.specs.Rule.{weight, total, lives, NoneInTurn, Fits}
+use Rattle.seat_lock.specs.Rule.{weight, total, weight_of_view, NoneInTurn, FitsAt}
 use Rattle.seat_lock.specs.Seats.{LockId, Known, once_between, AreEachOnce}
 use Rattle.seat_lock.specs.Views.{starting, known_as}
 use Rattle.seat_lock.proofs.Histories.{some-injective_or, some≢none, begins-itself, log_of-turns_of, logs_begin}
@@ -47,8 +47,8 @@ module _ {T H : Type 0} (head : T → H) (log : T → List LogEntry) where
     free = λ _. (x, refl, refl, sym (log_of-turns_of (log x)));
   }
     where
-      one : (j : ℕ) (v : View H) → get_elem? (starting (head x) (log x) ∷ []) j ≡ some v → Fits (head x) (length (log x)) [] (turns_of (log x)) 0 (some (Some x) ∷ []) j v
-      one zero v e = subst (Fits (head x) (length (log x)) [] (turns_of (log x)) 0 (some (Some x) ∷ []) 0) (some-injective _ v e) record {
+      one : (j : ℕ) (v : View H) → get_elem? (starting (head x) (log x) ∷ []) j ≡ some v → FitsAt (head x) (length (log x)) [] (turns_of (log x)) 0 (some (Some x) ∷ []) j v
+      one zero v e = subst (FitsAt (head x) (length (log x)) [] (turns_of (log x)) 0 (some (Some x) ∷ []) 0) (some-injective _ v e) record {
         headed = λ h g. (sym (some-injective_or h (head x) h g), begins-itself (turns_of (log x)), All-nil (λ seen. Begins seen (turns_of (log x))));
         knows = λ h g. refl;
         empty = λ _. refl;
@@ -63,15 +63,15 @@ module _ {T H : Type 0} (head : T → H) (log : T → List LogEntry) where
   closes lock s r v at no_ticket alone =
       let f = r.first in let same : f.view ≡ v = some-injective f.view v (sym f.is_first ∙ at) in
       let v_head : v.head ≡ Some r.at = sym (ap (λ x. x.head) same) ∙ f.head in
-      let all : total lives s.views ≡ suc v.out = f.counts ∙ ap (λ x. suc x.out) same in
-      let one : lives v ≡ 1 = ap weight v_head in
+      let all : total weight_of_view s.views ≡ suc v.out = f.counts ∙ ap (λ x. suc x.out) same in
+      let one : weight_of_view v ≡ 1 = ap weight v_head in
       let none_in : NoneInTurn s.views = λ j d e it. dite (ℕ_discrete 0 j)
       (λ is. some≢none it.0 (sym it.1 ∙ ap (λ x. x.ticket) (same_view head log s.views j 0 v d at e (sym is)) ∙ no_ticket))
-      (λ other. let both = two-le-total lives s.views 0 j v d other at e in let two : lives d ≡ 1 = ap weight ((r.each j d e).waits it.0 it.1).0 in absurd (omega arith)) in
+      (λ other. let both = two-le-total weight_of_view s.views 0 j v d other at e in let two : weight_of_view d ≡ 1 = ap weight ((r.each j d e).waits it.0 it.1).0 in absurd (omega arith)) in
       let g = r.free none_in in let seen = (r.each 0 v at).headed r.at v_head in
       let no_other : (p j : ℕ) (d : View H) → 0 ≢ j → get_elem? s.views j ≡ some d → times p d.receipts ≡ 0 = λ p j d other e.
-      let both = two-le-total lives s.views 0 j v d other at e in
-      let none : lives d ≡ 0 = omega arith in
+      let both = two-le-total weight_of_view s.views 0 j v d other at e in
+      let none : weight_of_view d ≡ 0 = omega arith in
       ap (times p) ((r.each j d e).empty (weight-none d.head none)) in
       let exact : (p : ℕ) → times p v.receipts ≡ once_between v.began (length (log_of r.history)) p = λ p.
       sym (total-alone (λ (u : View H). times p u.receipts) s.views v at (no_other p)) ∙ r.places p ∙ ap (λ n. once_between n (length (log_of r.history)) p) (sym ((r.each 0 v at).knows r.at v_head)) in

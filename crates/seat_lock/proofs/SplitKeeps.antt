@@ -6,7 +6,7 @@ use Rattle.atomic_table.specs.Table.{Splits}
 use Rattle.atomic_table.proofs.Lists.{at_snoc, at_longer, set_here}
 use Rattle.seat_lock.specs.View.{View}
 use Rattle.seat_lock.specs.History.{LogEntry, times}
-use Rattle.seat_lock.specs.Rule.{word_size, weight, total, lives, holds_ticket, Fits}
+use Rattle.seat_lock.specs.Rule.{word_size, weight, total, weight_of_view, holds_ticket, FitsAt}
 use Rattle.seat_lock.specs.Views.{with_one_more_out, newcomer}
 use Rattle.seat_lock.proofs.Histories.{some≢none}
 use Rattle.seat_lock.proofs.Totals.{total-set_same, total-append_one, below-length}
@@ -25,8 +25,8 @@ module _ {T H : Type 0} (head : T → H) (log : T → List LogEntry) where
         serving = r.serving;
         words = r.words;
         each = λ j d e. ⊎_elim
-            (each-set head log (Fits r.at r.began r.queue r.history r.serving s.homes) s.views 0 w record { headed = old.headed; knows = old.knows; empty = old.empty; waits = old.waits; rests = old.rests; turn = old.turn } (λ i u _ g. r.each i u g) j d)
-            (λ (is : n ≡ d). subst (Fits r.at r.began r.queue r.history r.serving s.homes j) is record {
+            (each-set head log (FitsAt r.at r.began r.queue r.history r.serving s.homes) s.views 0 w record { headed = old.headed; knows = old.knows; empty = old.empty; waits = old.waits; rests = old.rests; turn = old.turn } (λ i u _ g. r.each i u g) j d)
+            (λ (is : n ≡ d). subst (FitsAt r.at r.began r.queue r.history r.serving s.homes j) is record {
               headed = old.headed;
               knows = old.knows;
               empty = λ _. refl;
@@ -40,7 +40,7 @@ module _ {T H : Type 0} (head : T → H) (log : T → List LogEntry) where
           view = w;
           is_first = at_longer vs (n ∷ []) 0 w here;
           head = sym (ap (λ u. u.head) same) ∙ f.head;
-          counts = total-append_one lives vs n ∙ (let m = total-set_same lives s.views 0 v w at refl in let c : total lives s.views ≡ suc v.out = f.counts ∙ ap (λ u. suc u.out) same in let one : lives v ≡ 1 = ap weight has_head in omega arith);
+          counts = total-append_one weight_of_view vs n ∙ (let m = total-set_same weight_of_view s.views 0 v w at refl in let c : total weight_of_view s.views ≡ suc v.out = f.counts ∙ ap (λ u. suc u.out) same in let one : weight_of_view v ≡ 1 = ap weight has_head in omega arith);
           few = omega arith;
         };
         grown = r.grown;

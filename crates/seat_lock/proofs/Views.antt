@@ -8,7 +8,7 @@ use Rattle.atomic_table.specs.Table.{State}
 use Rattle.atomic_table.proofs.Lists.{at_set, set_here, set_else}
 use Rattle.seat_lock.specs.View.{View}
 use Rattle.seat_lock.specs.History.{LogEntry, log_of, times}
-use Rattle.seat_lock.specs.Rule.{word_size, weight, total, lives, holds_ticket, NoneInTurn, CountsTheOthers, Kept}
+use Rattle.seat_lock.specs.Rule.{word_size, weight, total, weight_of_view, holds_ticket, NoneInTurn, CountsTheOthers, IsHeldByRule}
 use Rattle.seat_lock.specs.Seats.{once_between}
 use Rattle.seat_lock.specs.Views.{InTurn}
 use Rattle.seat_lock.proofs.Histories.{some≢none}
@@ -22,7 +22,7 @@ module _ {T H : Type 0} (head : T → H) (log : T → List LogEntry) where
   Table = State (Option T) D
 
   abbrev pub Rule : Table → Type 0
-  Rule = Kept head log
+  Rule = IsHeldByRule head log
 
   -- what holds of each view after a change of one
   pub each-set : (P : ℕ → D → Type 0) (vs : List D) (me : ℕ) (w : D) → P me w → ((j : ℕ) (d : D) → j ≢ me → get_elem? vs j ≡ some d → P j d) → (j : ℕ) (d : D) → get_elem? (set vs me w) j ≡ some d → P j d
@@ -45,7 +45,7 @@ module _ {T H : Type 0} (head : T → H) (log : T → List LogEntry) where
       (λ other. none_after j d (set_else vs me j w other ∙ e) turn)
 
   pub counts-set : (at : H) (vs : List D) (me : ℕ) (v w : D) → get_elem? vs me ≡ some v → w.head ≡ v.head → w.out ≡ v.out → CountsTheOthers at vs → CountsTheOthers at (set vs me w)
-  counts-set at vs me v w here same_head same_out f = let sum = total-set_same lives vs me v w here (ap weight same_head) in dite (ℕ_discrete 0 me)
+  counts-set at vs me v w here same_head same_out f = let sum = total-set_same weight_of_view vs me v w here (ap weight same_head) in dite (ℕ_discrete 0 me)
       (λ is. let same : f.view ≡ v = same_view vs 0 me v f.view here f.is_first is in record {
         view = w;
         is_first = ap (get_elem? (set vs me w)) is ∙ set_here vs me w (below-length vs me v here);
@@ -73,7 +73,7 @@ module _ {T H : Type 0} (head : T → H) (log : T → List LogEntry) where
   -- fewer than 2^64 views hold a ticket
   pub short_queue : (s : Table) (r : Rule s) → length r.queue < word_size
   short_queue s r =
-      let most = total-le-total holds_ticket lives s.views (λ j d e. weight-le-weight d.ticket d.head r.at (λ t h. ((r.each j d e).waits t h).0)) in
+      let most = total-le-total holds_ticket weight_of_view s.views (λ j d e. weight-le-weight d.ticket d.head r.at (λ t h. ((r.each j d e).waits t h).0)) in
       let all = r.first.counts in let few = r.first.few in let here = r.holders in omega arith
 
   pub served_is : (s : Table) (r : Rule s) → get_or s.words 1 0 ≡ r.serving

@@ -27,8 +27,8 @@ total f (v ∷ vs) = f v + total f vs
 
 module _ {H : Type 0} where
   -- 1 for a view that isn't spent, which is one with a head
-  abbrev pub lives : View H → ℕ
-  lives v = weight v.head
+  abbrev pub weight_of_view : View H → ℕ
+  weight_of_view v = weight v.head
 
   -- 1 for a view that holds a ticket
   abbrev pub holds_ticket : View H → ℕ
@@ -42,11 +42,11 @@ module _ {H : Type 0} where
     pub view : View H
     pub is_first : get_elem? views 0 ≡ some view
     pub head : view.head ≡ Some at
-    pub counts : total lives views ≡ suc view.out
+    pub counts : total weight_of_view views ≡ suc view.out
     pub few : suc view.out < word_size
 
   -- what the rule requires of view number j alone. The queue has the numbers of the views that hold a ticket, from the one served on
-  pub record Fits {T : Type 0} (at : H) (began : ℕ) (queue : List ℕ) (history : History) (serving : ℕ) (homes : List (maybe.Option (Option T))) (j : ℕ) (v : View H) : Type 0 where
+  pub record FitsAt {T : Type 0} (at : H) (began : ℕ) (queue : List ℕ) (history : History) (serving : ℕ) (homes : List (maybe.Option (Option T))) (j : ℕ) (v : View H) : Type 0 where
     -- unless it is spent it has the one head, and has seen a start of the history
     pub headed : (head : H) → v.head ≡ Some head → (head ≡ at) × Begins v.seen history × All (λ seen. Begins seen history) v.joined
     -- and it knows how long the log was at the start
@@ -60,14 +60,14 @@ module _ {H : Type 0} where
     -- in its turn it is the one served, has seen the whole history, and the slot is lent
     pub turn : (ticket : ℕ) → v.ticket ≡ Some ticket → v.served ≡ Some ticket → (ticket ≡ serving) × (v.seen ≡ history) × (homes ≡ none ∷ [])
 
-  pub record Kept {T : Type 0} (head : T → H) (log : T → List LogEntry) (s : State (Option T) (View H)) : Type 0 where
+  pub record IsHeldByRule {T : Type 0} (head : T → H) (log : T → List LogEntry) (s : State (Option T) (View H)) : Type 0 where
     pub at : H
     pub queue : List ℕ
     pub began : ℕ
     pub history : History
     pub serving : ℕ
     pub words : s.words ≡ (serving + length queue) % word_size ∷ serving ∷ []
-    pub each : (j : ℕ) (v : View H) → get_elem? s.views j ≡ some v → Fits at began queue history serving s.homes j v
+    pub each : (j : ℕ) (v : View H) → get_elem? s.views j ≡ some v → FitsAt at began queue history serving s.homes j v
     pub holders : total holds_ticket s.views ≡ length queue
     pub first : CountsTheOthers at s.views
     -- the log is no shorter than at the start. Of each entry behind there is one receipt in all views together, and of no other place

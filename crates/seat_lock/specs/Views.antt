@@ -35,8 +35,8 @@ module _ {H : Type 0} where
   }
 
   -- the view of the seat that was joined in
-  abbrev pub spent : View H
-  spent = record { head = None; ticket = None; served = None; out = 0; seen = []; joined = []; receipts = []; turns = 0; began = 0 }
+  abbrev pub spent_view : View H
+  spent_view = record { head = None; ticket = None; served = None; out = 0; seen = []; joined = []; receipts = []; turns = 0; began = 0 }
 
   -- after a ticket was drawn
   abbrev pub with_ticket : ℕ → View H → View H

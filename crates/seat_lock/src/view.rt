@@ -20,21 +20,21 @@ pub struct View<H> {
 
 impl<H> Model for View<H> {
     ghost use Rattle.seat_lock.specs.View.{View};
-    ghost use Rattle.seat_lock.specs.Views.{spent};
+    ghost use Rattle.seat_lock.specs.Views.{spent_view};
 
     ghost Value = { View H };
 
-    ghost view = { λ _. spent };
+    ghost view = { λ _. spent_view };
 }
 
 /// The rule that holds between any two steps.
 pub struct LockRule;
 
 impl<T: Logged> TableRule<Option<T>, View<T::Head>, Snapshot<T>> for LockRule {
-    ghost use Rattle.seat_lock.specs.Rule.{Kept};
+    ghost use Rattle.seat_lock.specs.Rule.{IsHeldByRule};
     ghost use Rattle.seat_lock.specs.Views.{starting};
 
-    ghost holds = { λ _. Kept T.head T.log };
+    ghost holds = { λ _. IsHeldByRule T.head T.log };
 
     ghost first = { λ key. starting (T.head key.value) (T.log key.value) };
 }
@@ -81,9 +81,9 @@ impl<H> Split<View<H>> for SplitOff {
 pub struct JoinIn;
 
 impl<H> Join<View<H>> for JoinIn {
-    ghost use Rattle.seat_lock.specs.Views.{with_joined, spent};
+    ghost use Rattle.seat_lock.specs.Views.{with_joined, spent_view};
 
     ghost both = { with_joined };
 
-    ghost spent = { spent };
+    ghost spent = { spent_view };
 }

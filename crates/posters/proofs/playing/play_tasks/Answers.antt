@@ -5,7 +5,7 @@ use Rattle.board_book.specs.Tasks.{openings, sayings}
 use Rattle.dispute_board.specs.OneHistory.{log_of_journal}
 use Rattle.posters.specs.declared.serving.Poster.{Poster}
 use Rattle.std.proofs.lemmas.List.{length-map}
-use Rattle.posters.specs.Serving.{places_from, kept_of, saying_of}
+use Rattle.posters.specs.Serving.{places_from, staying_part_of, saying_of}
 use Rattle.posters.proofs.Numbering.{all_by_number, as_many}
 use Rattle.std.proofs.lemmas.Option.{same_Some}
 use Rattle.posters.proofs.Seats.{log_of-turns_of}
@@ -42,7 +42,7 @@ serve_all-requires-clause-classes g c κs within = λ i d below.
 
 pub join_posters-requires-clause-seats : goal.join_posters-requires-clause-seats
 join_posters-requires-clause-seats g c =
-    let same = c.as_mut_slice.ensures.value in let stays : Poster g.row.J.Denot g.row.P.Denot g.row.J-Names.Denot g.row.P-Names.Denot → Rattle.seat_lock.specs.Seats.Known (List (Opening g.row.J-Names.Denot g.row.P-Names.Denot)) × ℕ = λ w. (kept_of w.seat, w.class) in
+    let same = c.as_mut_slice.ensures.value in let stays : Poster g.row.J.Denot g.row.P.Denot g.row.J-Names.Denot g.row.P-Names.Denot → Rattle.seat_lock.specs.Seats.Known (List (Opening g.row.J-Names.Denot g.row.P-Names.Denot)) × ℕ = λ w. (staying_part_of w.seat, w.class) in
     let full : c.seat_posters.new.posters.len ≡ length c.seat_posters.new.posters.items = search rules in
     kept_back stays (λ k. k.0.lock ≡ c.in_ok-board.board) c.serve_all.new.servers c.seat_posters.new.posters.items c.seat_posters.new.posters.len full (c.serve_all.ensures.servers ∙ ap (map stays) same) (λ k d below. (c.seat_posters.ensures.seats k d below).0)
 

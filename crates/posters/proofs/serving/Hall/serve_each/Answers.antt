@@ -3,7 +3,7 @@ use Rattle.std.specs.Prelude.{slice_get}
 use Rattle.posters.specs.declared.playing.Place.{Place}
 use Rattle.seat_lock.specs.Seats.{Known}
 use Rattle.board_book.specs.declared.book.Opening.{Opening}
-use Rattle.posters.specs.Serving.{kept_of, saying_of, SeesOverOf}
+use Rattle.posters.specs.Serving.{staying_part_of, saying_of, SeesOverOf}
 use Rattle.posters.proofs.Answering.{said_at, said_again}
 use Rattle.posters.proofs.Ended.{one_more_over}
 use Rattle.posters.proofs.Numbering.{prover_at}
@@ -29,7 +29,7 @@ pub loop-i-preserved : goal.loop-i-preserved
 loop-i-preserved g c = let v = c.loop-i.invariant in let answers = g.A.Answerer.answers in
     elim c.match-place_at.branch [
       | in-Some+in-Over w ↦ (
-        ap kept_of w.seat-is ∙ w.serve_prover.ensures.seat ∙ v.0,
+        ap staying_part_of w.seat-is ∙ w.serve_prover.ensures.seat ∙ v.0,
         ap (map answers) w.answerers-is ∙ said_again answers c.loop-i.answerers c.loop-i.i w.serve_prover.new.answerer w.index-answerers-i.result w.serve_prover.ensures.answerer ∙ v.1,
         search rules,
         search rules,
@@ -40,18 +40,18 @@ loop-i-preserved g c = let v = c.loop-i.invariant in let answers = g.A.Answerer.
             (ap (λ (k : Known (List (Opening g.row.J-Names.Denot g.row.P-Names.Denot))). k.head) now.seat) now.seen (sym c.place_at.ensures ∙ w.in-Some.is) (now.over w.in-Over.is) (v.4 (omega (arith, all, w.over-is)))),
       )
       | in-Some+in-Posted w ↦ (
-        ap kept_of w.seat-is ∙ w.serve_prover.ensures.seat ∙ v.0,
+        ap staying_part_of w.seat-is ∙ w.serve_prover.ensures.seat ∙ v.0,
         ap (map answers) w.answerers-is ∙ said_again answers c.loop-i.answerers c.loop-i.i w.serve_prover.new.answerer w.index-answerers-i.result w.serve_prover.ensures.answerer ∙ v.1,
         search rules,
         search rules,
         λ all. absurd (let few = v.3 in omega (arith, all, w.over-is, few)),
       )
       | in-Some+in-Idle w ↦ (
-        ap kept_of w.seat-is ∙ w.serve_prover.ensures.seat ∙ v.0,
+        ap staying_part_of w.seat-is ∙ w.serve_prover.ensures.seat ∙ v.0,
         ap (map answers) w.answerers-is ∙ said_again answers c.loop-i.answerers c.loop-i.i w.serve_prover.new.answerer w.index-answerers-i.result w.serve_prover.ensures.answerer ∙ v.1,
         search rules,
         search rules,
         λ all. absurd (let few = v.3 in omega (arith, all, w.over-is, few)),
       )
-      | in_default w ↦ (ap kept_of w.seat-is ∙ v.0, ap (map answers) w.answerers-is ∙ v.1, search rules, search rules, λ all. absurd (let few = v.3 in omega (arith, all, w.over-is, few)))
+      | in_default w ↦ (ap staying_part_of w.seat-is ∙ v.0, ap (map answers) w.answerers-is ∙ v.1, search rules, search rules, λ all. absurd (let few = v.3 in omega (arith, all, w.over-is, few)))
     ]
