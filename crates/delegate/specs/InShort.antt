@@ -123,8 +123,8 @@ abbrev pub TaskEnds : ImageRule → DigestName → CaseData × List ℕ → Type
 TaskEnds IsImage name task = (start : State) → IsStartOf IsImage task.0 start → Contains task.0.provers honest →
     HasLastLine (accepting (state_at start task.0.bound)) task.1 ⊎ ShowsTwoStrings name task.1
 
--- there is a text for each task, they stand each under its line and are all that is written, and each ends so. As no line of theirs begins
--- with `task `, what is written can be cut into them in no other way
+-- there is a text for each task, they stand each under its line and are all that is written, and each ends so. No line of theirs begins
+-- with `task `: what is written is cut where a line begins so
 pub record TasksEnd (IsImage : ImageRule) (name : DigestName) (cs : List CaseData) (text : List ℕ) : Type 0 where
   pub parts : List (List ℕ)
   pub count : length parts ≡ length cs
