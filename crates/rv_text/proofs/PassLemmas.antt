@@ -65,16 +65,16 @@ pub append-none : (xs : List ℕ) → xs ++ [] ≡ xs
 append-none [] = refl
 append-none (x ∷ xs) = ap (λ t. x ∷ t) (append-none xs)
 
-with_word-append : (xs : List ℕ) (w : Option ℕ) (ws : List ℕ) → xs ++ with_word w ws ≡ (xs ++ with_word w []) ++ ws
-with_word-append xs None ws = let none = append-none xs in ap (λ t. t ++ ws) (sym none)
-with_word-append xs (Some w) ws = sym (append_assoc xs (w ∷ []) ws)
+also-append : (xs : List ℕ) (w : Option ℕ) (ws : List ℕ) → xs ++ with_word w ws ≡ (xs ++ with_word w []) ++ ws
+also-append xs None ws = let none = append-none xs in ap (λ t. t ++ ws) (sym none)
+also-append xs (Some w) ws = sym (append_assoc xs (w ∷ []) ws)
 
-with_word-before : (xs : List ℕ) (w : Option ℕ) (r : Result (List ℕ) AsmFault) → before xs (r >>= λ ws. Ok (with_word w ws)) ≡ before (xs ++ with_word w []) r
-with_word-before xs w (Ok ws) = ap (λ t. Ok t) (with_word-append xs w ws)
-with_word-before xs w (Err e) = refl
+also-before : (xs : List ℕ) (w : Option ℕ) (r : Result (List ℕ) AsmFault) → before xs (r >>= λ ws. Ok (with_word w ws)) ≡ before (xs ++ with_word w []) r
+also-before xs w (Ok ws) = ap (λ t. Ok t) (also-append xs w ws)
+also-before xs w (Err e) = refl
 
 pub word-goes : (n : ℕ) (names : Names) (here : ℕ) (l : List ℕ) (ls : List (List ℕ)) (xs : List ℕ) (w : Option ℕ) → word_of_line names here l ≡ Ok w → before xs (second_pass n names here (l ∷ ls)) ≡ before (xs ++ with_word w []) (second_pass (n + 1) names (place_after here w) ls)
-word-goes n names here l ls xs w e = rw e (with_word-before xs w (second_pass (n + 1) names (place_after here w) ls))
+word-goes n names here l ls xs w e = rw e (also-before xs w (second_pass (n + 1) names (place_after here w) ls))
 
 pub word-fails : (n : ℕ) (names : Names) (here : ℕ) (l : List ℕ) (ls : List (List ℕ)) (xs : List ℕ) (k : FaultKind) → word_of_line names here l ≡ Err k → before xs (second_pass n names here (l ∷ ls)) ≡ Err (fault n k)
 word-fails n names here l ls xs k e = rw e refl

@@ -1,4 +1,4 @@
--- To believe: the operands of a form, how they are read, and how they are ranged_if_read.
+-- To believe: the operands of a form, how they are read, and how they are written.
 use Rattle.std.specs.Prelude.{ℕ, zero, suc, ◌+◌, ◌/◌, ◌%◌, ◌==◌, ◌&&◌, ◌||◌, Bool, true, false, if◌then◌else◌, List, [], ◌∷◌, ◌++◌, ℤ, unsigned_abs, Option, Some, None, option_map, Result, Ok, Err, nat_lt, decimal}
 use Rattle.std.specs.Fmt.{signed_decimal}
 use Rattle.rv_text.specs.Characters.{is_blank, is_of_operand, run, behind, skip, is_empty, begins, is_name}

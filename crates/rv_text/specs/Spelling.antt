@@ -52,7 +52,7 @@ spelled_branch name b = spelled name Branch (pos b.rs1 ∷ pos b.rs2 ∷ b.imm �
 abbrev pub spelled_jump : List ℕ → JType → Spelling
 spelled_jump name j = spelled name Jump (pos j.rd ∷ j.imm ∷ [])
 
--- `rd, imm`, the spelled_upper twenty bits as a number that isn't negative
+-- `rd, imm`, the upper twenty bits as a number that isn't negative
 abbrev pub spelled_upper : List ℕ → UType → Spelling
 spelled_upper name u = spelled name Upper (pos u.rd ∷ pos (twos_complement 32 u.imm / 2 ^ 12) ∷ [])
 

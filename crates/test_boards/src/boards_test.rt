@@ -1,6 +1,6 @@
 //! Tests of the board of one task.
 ghost use Rattle.std.specs.Prelude.{◌≡◌, ◌<◌, ◌≤◌, IfOk};
-ghost use Rattle.posters.specs.Serving.{kept_of};
+ghost use Rattle.posters.specs.Serving.{staying_part_of};
 ghost use Rattle.test_boards.specs.Seats.{IsSeatOfTwo};
 
 use crate::casts::{book_of, cast_of};
@@ -52,7 +52,7 @@ fn post_alone<R: Threads + Wait + Sync>(
     requires some { 0 < p }
     requires few { p ≤ 2 }
     ensures seat { IsSeatOfTwo board.now cast seat.new }
-    ensures same { kept_of seat.new ≡ kept_of seat.old }
+    ensures same { staying_part_of seat.new ≡ staying_part_of seat.old }
 {
     let player = player_at(&cast, &cast, 1, p);
     let answer = Seated { player, alloc }.answer(rt, &Question::claim(), passes)?;
@@ -75,7 +75,7 @@ fn ask_and_post<R: Threads + Wait + Sync>(
     requires some { 0 < p }
     requires few { p ≤ 2 }
     ensures seat { IsSeatOfTwo board.now cast seat.new }
-    ensures same { kept_of seat.new ≡ kept_of seat.old }
+    ensures same { staying_part_of seat.new ≡ staying_part_of seat.old }
 {
     let asked = ask_in_short(board.ask(rt, seat, p));
     let (_, reply, receipt) = post_alone(rt, alloc, board, seat, cast, p, passes)?;

@@ -2,7 +2,7 @@
 ghost use Rattle.std.specs.Prelude.{◌≡◌, ◌<◌, ◌≤◌};
 ghost use Rattle.toy_game.specs.Toy.{answers, says_of};
 ghost use Rattle.test_boards.specs.Casts.{cast_at};
-ghost use Rattle.posters.specs.Serving.{kept_of};
+ghost use Rattle.posters.specs.Serving.{staying_part_of};
 ghost use Rattle.test_boards.specs.TaskSeats.{IsSeatOfTasks};
 
 use crate::casts::{Account, books_of, cast_of};
@@ -50,7 +50,7 @@ fn serve<R: Threads + Wait + Sync>(
     requires task { (0 < t) × (t ≤ 2) }
     requires prover { (0 < p) × (p ≤ 2) }
     ensures seat { IsSeatOfTasks board.now casts.0 casts.1 seat.new }
-    ensures same { kept_of seat.new ≡ kept_of seat.old }
+    ensures same { staying_part_of seat.new ≡ staying_part_of seat.old }
 {
     what_is_said_may_be_posted();
     match board.ask(rt, seat, t, p) {
@@ -76,7 +76,7 @@ fn play_in_order<R: Threads + Wait + Sync>(
 ) -> Result<bool, Memory>
     requires seat { IsSeatOfTasks board.now casts.0 casts.1 seat.old }
     ensures seat { IsSeatOfTasks board.now casts.0 casts.1 seat.new }
-    ensures same { kept_of seat.new ≡ kept_of seat.old }
+    ensures same { staying_part_of seat.new ≡ staying_part_of seat.old }
 {
     let mut moves: [u32; 2] = [0, 0];
     let mut are_next = true;

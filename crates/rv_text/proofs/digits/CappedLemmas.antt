@@ -72,8 +72,8 @@ pub ranged-capped : (f : Field) (z : ℤ) → ranged f (capped_integer z) ≡ ra
 ranged-capped f (pos n) = ranged-natural f n
 ranged-capped f (negsuc n) = ranged-negative f n
 
-pub ranged_if_read-capped : (f : Field) (o : Option ℤ) → ranged_if_read f (option_map capped_integer o) ≡ ranged_if_read f o
-ranged_if_read-capped f None = refl
-ranged_if_read-capped f (Some z) = ranged-capped f z
+pub written-capped : (f : Field) (o : Option ℤ) → ranged_if_read f (option_map capped_integer o) ≡ ranged_if_read f o
+written-capped f None = refl
+written-capped f (Some z) = ranged-capped f z
 
-pub ruleset ranged_rules = (ranged_if_read-capped, ranged-capped)
+pub ruleset ranged_rules = (written-capped, ranged-capped)

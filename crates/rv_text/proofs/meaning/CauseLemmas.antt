@@ -159,9 +159,9 @@ module _ (d : Distances) (f : Field) (x : List ℕ) where
     is_least = from-1 (IsCause d f x);
   }
 
-  ranged_if_defined-judged : is_register f ≡ false → (is_target f && is_name x) ≡ true → (o : Option ℤ) → d x ≡ o → Judged (IsCause d f x) (ranged_if_defined f o)
+  distant-judged : is_register f ≡ false → (is_target f && is_name x) ≡ true → (o : Option ℤ) → d x ≡ o → Judged (IsCause d f x) (ranged_if_defined f o)
   unfolding IsCause
-  ranged_if_defined-judged r t (Some z) o = ranged-at (is_in f z) refl
+  distant-judged r t (Some z) o = ranged-at (is_in f z) refl
     where
       form : may_stand f x ≡ false → ⊥
       form h = true≢false (sym (rw (r, t) refl) ∙ h)
@@ -181,7 +181,7 @@ module _ (d : Distances) (f : Field) (x : List ℕ) where
         is_there = record { of_number = r; number = z; stands = number; is_outside = i };
         is_least = from-4 (IsCause d f x) form (λ h. h) register;
       }
-  ranged_if_defined-judged r t None o =
+  distant-judged r t None o =
       let parts = and_parts (is_target f) (is_name x) t in
       record {
         is_there = record { of_target = parts.0; is_a_name = parts.1; is_undefined = o };
@@ -189,9 +189,9 @@ module _ (d : Distances) (f : Field) (x : List ℕ) where
             (λ h. let none : stands_for d f x ≡ None = rw t o in let known : None ≡ Some h.number = sym none ∙ h.stands in absurd cc);
       }
 
-  ranged_if_read-judged : is_register f ≡ false → (is_target f && is_name x) ≡ false → (o : Option ℤ) → number_of_text x ≡ o → Judged (IsCause d f x) (ranged_if_read f o)
+  written-judged : is_register f ≡ false → (is_target f && is_name x) ≡ false → (o : Option ℤ) → number_of_text x ≡ o → Judged (IsCause d f x) (ranged_if_read f o)
   unfolding IsCause
-  ranged_if_read-judged r t (Some z) o = ranged-at (is_in f z) refl
+  written-judged r t (Some z) o = ranged-at (is_in f z) refl
     where
       form : may_stand f x ≡ false → ⊥
       form h = true≢false (sym (rw (r, t, o) refl) ∙ h)
@@ -214,7 +214,7 @@ module _ (d : Distances) (f : Field) (x : List ℕ) where
         is_there = record { of_number = r; number = z; stands = number; is_outside = i };
         is_least = from-4 (IsCause d f x) form (λ h. h) register;
       }
-  ranged_if_read-judged r t None o = record {
+  written-judged r t None o = record {
     is_there = rw (r, t, o) refl;
     is_least = from-1 (IsCause d f x);
   }
@@ -223,8 +223,8 @@ module _ (d : Distances) (f : Field) (x : List ℕ) where
   operand-judged = by (is_register f) refl
     where
       by-target : is_register f ≡ false → (t : Bool) → (is_target f && is_name x) ≡ t → Judged (IsCause d f x) (if t then ranged_if_defined f (d x) else ranged_if_read f (number_of_text x))
-      by-target r true t = ranged_if_defined-judged r t (d x) refl
-      by-target r false t = ranged_if_read-judged r t (number_of_text x) refl
+      by-target r true t = distant-judged r t (d x) refl
+      by-target r false t = written-judged r t (number_of_text x) refl
 
       by : (b : Bool) → is_register f ≡ b → Judged (IsCause d f x) (if b then registered_in x else if is_target f && is_name x then ranged_if_defined f (d x) else ranged_if_read f (number_of_text x))
       by true r = registered-judged r (is_name x) refl (register_of_text x) refl

@@ -136,13 +136,13 @@ unfolding Cause
 ranged-cause d text f name has z is true out k e = elim (ok-not_err z k e) [ ]
 ranged-cause d text f name has z is false out k e = inr (sym (same-fault OutOfRange k e), record { field = f; name = name; distance = z; has_target = has; is_distance = is; is_far = out })
 
-ranged_if_defined-cause : (d : Distances) (text : List ℕ) (f : Field) (name : List ℕ) → HasTarget text f name → (o : Option ℤ) → d name ≡ o → (k : FaultKind) → ranged_if_defined f o ≡ Err k → Cause d text k
+distant-cause : (d : Distances) (text : List ℕ) (f : Field) (name : List ℕ) → HasTarget text f name → (o : Option ℤ) → d name ≡ o → (k : FaultKind) → ranged_if_defined f o ≡ Err k → Cause d text k
 unfolding Cause
-ranged_if_defined-cause d text f name has (Some z) is k e = ranged-cause d text f name has z is (is_in f z) refl k e
-ranged_if_defined-cause d text f name has None is k e = inl (sym (same-fault Undefined k e), record { field = f; name = name; has_target = has; is_undefined = is })
+distant-cause d text f name has (Some z) is k e = ranged-cause d text f name has z is (is_in f z) refl k e
+distant-cause d text f name has None is k e = inl (sym (same-fault Undefined k e), record { field = f; name = name; has_target = has; is_undefined = is })
 
 word-cause : (d : Distances) (text : List ℕ) (w : Option ℕ) (k : FaultKind) → word_in near text ≡ Ok w → word_in d text ≡ Err k → Cause d text k
-word-cause d text = word-later (Cause d text) d text (λ f name has. ranged_if_defined-cause d text f name has (d name) refl)
+word-cause d text = word-later (Cause d text) d text (λ f name has. distant-cause d text f name has (d name) refl)
 
 of-name : (d : Distances) (text : List ℕ) (k : FaultKind) → Cause d text k → OfName k
 unfolding Cause

@@ -71,29 +71,29 @@ tested-range : (f : Field) (b : Bool) (x z : ℤ) → is_in f x ≡ b → (if b 
 tested-range f true x z h e = subst (λ x. is_in f x ≡ true) (ok-same x z e) h
 tested-range f false x z h e = elim (err-not_ok OutOfRange z e) [ ]
 
-ranged_if_read-range : (f : Field) (o : Option ℤ) (z : ℤ) → ranged_if_read f o ≡ Ok z → is_in f z ≡ true
-ranged_if_read-range f (Some x) z e = tested-range f (is_in f x) x z refl e
-ranged_if_read-range f None z e = elim (err-not_ok OtherForm z e) [ ]
+written-range : (f : Field) (o : Option ℤ) (z : ℤ) → ranged_if_read f o ≡ Ok z → is_in f z ≡ true
+written-range f (Some x) z e = tested-range f (is_in f x) x z refl e
+written-range f None z e = elim (err-not_ok OtherForm z e) [ ]
 
-ranged_if_defined-range : (f : Field) (o : Option ℤ) (z : ℤ) → ranged_if_defined f o ≡ Ok z → is_in f z ≡ true
-ranged_if_defined-range f (Some x) z e = tested-range f (is_in f x) x z refl e
-ranged_if_defined-range f None z e = elim (err-not_ok Undefined z e) [ ]
+distant-range : (f : Field) (o : Option ℤ) (z : ℤ) → ranged_if_defined f o ≡ Ok z → is_in f z ≡ true
+distant-range f (Some x) z e = tested-range f (is_in f x) x z refl e
+distant-range f None z e = elim (err-not_ok Undefined z e) [ ]
 
 tested-target : (f : Field) (b : Bool) (o p : Option ℤ) (z : ℤ) → (if b then ranged_if_defined f o else ranged_if_read f p) ≡ Ok z → is_in f z ≡ true
-tested-target f true o p z e = ranged_if_defined-range f o z e
-tested-target f false o p z e = ranged_if_read-range f p z e
+tested-target f true o p z e = distant-range f o z e
+tested-target f false o p z e = written-range f p z e
 
 operand-range : (d : Distances) (f : Field) (text : List ℕ) (z : ℤ) → operand_in d f text ≡ Ok z → is_in f z ≡ true
 operand-range d Rd text z e = registered-range text z e
 operand-range d Rs1 text z e = registered-range text z e
 operand-range d Rs2 text z e = registered-range text z e
-operand-range d Immediate text z e = ranged_if_read-range Immediate (number_of_text text) z e
-operand-range d Shift text z e = ranged_if_read-range Shift (number_of_text text) z e
-operand-range d StoreOffset text z e = ranged_if_read-range StoreOffset (number_of_text text) z e
+operand-range d Immediate text z e = written-range Immediate (number_of_text text) z e
+operand-range d Shift text z e = written-range Shift (number_of_text text) z e
+operand-range d StoreOffset text z e = written-range StoreOffset (number_of_text text) z e
 operand-range d BranchTarget text z e = tested-target BranchTarget (is_name text) (d text) (number_of_text text) z e
 operand-range d JumpTarget text z e = tested-target JumpTarget (is_name text) (d text) (number_of_text text) z e
-operand-range d Upper text z e = ranged_if_read-range Upper (number_of_text text) z e
-operand-range d Word text z e = ranged_if_read-range Word (number_of_text text) z e
+operand-range d Upper text z e = written-range Upper (number_of_text text) z e
+operand-range d Word text z e = written-range Word (number_of_text text) z e
 
 both-range : (s : Slot) (slots : List Slot) (r : Result ℤ FaultKind) (rs : Result (List ℤ) FaultKind) (zs : List ℤ) → ((z : ℤ) → r ≡ Ok z → is_in (field_of s) z ≡ true) → ((ys : List ℤ) → rs ≡ Ok ys → in_ranges slots ys ≡ true) → both r rs ≡ Ok zs → in_ranges (s ∷ slots) zs ≡ true
 both-range s slots (Ok z) (Ok ys) zs h k e = subst (λ zs. in_ranges (s ∷ slots) zs ≡ true) (ok-same (z ∷ ys) zs e) (and_from _ _ (h z refl) (k ys refl))
@@ -207,8 +207,8 @@ pub said : EachHasWord → (d : Distances) (text : List ℕ) (w : ℕ) → word_
 said law d text w e = said-first law d text w (is_empty (first_word text)) e
 
 -- ---- and what says a word has it
-pub ranged_if_read-word : EachHasWord → (d : Distances) (text : List ℕ) (s : Spelling) (w : ℕ) → IsSpelledBy d text s → IsWordOf s w → word_of_statement d text ≡ Ok w
-ranged_if_read-word law d text s w is meant =
+pub written-word : EachHasWord → (d : Distances) (text : List ℕ) (s : Spelling) (w : ℕ) → IsSpelledBy d text s → IsWordOf s w → word_of_statement d text ≡ Ok w
+written-word law d text s w is meant =
     let has = has-word law s w meant in
     let after = after_first_word text in
     ap (λ n. if is_empty n then Err OtherForm else word_of_row d (row_named n) after) is.mnemonic
@@ -218,4 +218,4 @@ ranged_if_read-word law d text s w is meant =
     ∙ ap (λ n. Ok n) has.is_word)))
 
 pub statement-stands : EachHasWord → (d : Distances) (text : List ℕ) (w : ℕ) → (word_of_statement d text ≡ Ok w) ↔ StandsForWord d text w
-statement-stands law d text w = (said law d text w, λ says. ranged_if_read-word law d text says.spelling w says.is_spelled says.is_word)
+statement-stands law d text w = (said law d text w, λ says. written-word law d text says.spelling w says.is_spelled says.is_word)

@@ -254,10 +254,10 @@ line-word d (c ∷ cs) w e = by (word_of_statement d (c ∷ cs)) refl w e
     by (Ok y) is None e = absurd cc
     by (Err k) is w e = absurd cc
 
-words-with_word : (names : Names) (place : ℕ) (l : List ℕ) (ls : List (List ℕ)) (w : Option ℕ) (ws : List ℕ) → LineWord (distances_from names place) (statement_in (code_in l)) w (has_statement l)
+words-also : (names : Names) (place : ℕ) (l : List ℕ) (ls : List (List ℕ)) (w : Option ℕ) (ws : List ℕ) → LineWord (distances_from names place) (statement_in (code_in l)) w (has_statement l)
     → AreWordsFrom names (place_after place w) ls ws → AreWordsFrom names place (l ∷ ls) (with_word w ws)
 unfolding LineWord
-words-with_word names place l ls (Some x) ws is rest =
+words-also names place l ls (Some x) ws is rest =
     let one : counted (has_statement l) ≡ 1 = ap counted is.0 in
     record {
       count = let some = rest.count in omega arith;
@@ -271,7 +271,7 @@ words-with_word names place l ls (Some x) ws is rest =
         let at : place + 4 * words_before (l ∷ ls) (suc i) ≡ place + 4 + 4 * words_before ls i = omega arith in
         let behind : words_before (l ∷ ls) (suc i) ≡ suc (words_before ls i) = omega arith in
         ap (λ (at : ℕ). word_of_statement (distances_from names at) (statement_at ls i)) at ∙ rest.each i (omega arith) has ∙ ap (λ (k : ℕ). Ok (slice_index (x ∷ ws) k)) (sym behind)
-words-with_word names place l ls None ws is rest =
+words-also names place l ls None ws is rest =
     let none : counted (has_statement l) ≡ 0 = ap counted is in
     record {
       count = let some = rest.count in omega arith;
@@ -291,7 +291,7 @@ second-words n names place (l ∷ ls) ws e =
     let w = then-ok (map_fault (fault n) (word_of_line names place l)) _ ws e in
     let rest = then-ok (second_pass (n + 1) names (place_after place w.0) ls) _ ws w.2 in
     subst (AreWordsFrom names place (l ∷ ls)) (same-ok (with_word w.0 rest.0) ws rest.2)
-    (words-with_word names place l ls w.0 rest.0 (line-word (distances_from names place) (statement_in (code_in l)) w.0 (mapped-ok (fault n) (word_of_line names place l) w.0 w.1))
+    (words-also names place l ls w.0 rest.0 (line-word (distances_from names place) (statement_in (code_in l)) w.0 (mapped-ok (fault n) (word_of_line names place l) w.0 w.1))
     (second-words (n + 1) names (place_after place w.0) ls rest.0 rest.1))
 
 -- ---- a text

@@ -42,13 +42,13 @@ known-form A = known-err A OtherForm (λ e. absurd cc)
 known-ranged : (f : Field) (z : ℤ) → Known (ranged f z)
 known-ranged f z = known-either (is_in f z) (Ok z) (Err OutOfRange) (known-ok z) (known-err _ OutOfRange (λ e. absurd cc))
 
-known-ranged_if_read : (f : Field) (o : Option ℤ) → Known (ranged_if_read f o)
-known-ranged_if_read f (Some z) = known-ranged f z
-known-ranged_if_read f None = known-form _
+known-written : (f : Field) (o : Option ℤ) → Known (ranged_if_read f o)
+known-written f (Some z) = known-ranged f z
+known-written f None = known-form _
 
-known-ranged_if_defined : (f : Field) (o : Option ℤ) → Known (ranged_if_defined f o)
-known-ranged_if_defined f (Some z) = known-ranged f z
-known-ranged_if_defined f None = known-err _ Undefined (λ e. absurd cc)
+known-distant : (f : Field) (o : Option ℤ) → Known (ranged_if_defined f o)
+known-distant f (Some z) = known-ranged f z
+known-distant f None = known-err _ Undefined (λ e. absurd cc)
 
 known-registered : (o : Option ℤ) → Known (registered o)
 known-registered (Some z) = known-ok z
@@ -57,7 +57,7 @@ known-registered None = known-err _ NoRegister (λ e. absurd cc)
 known-operand : (d : Distances) (f : Field) (text : List ℕ) → Known (operand_in d f text)
 known-operand d f text =
     known-either (is_register f) (registered_in text) _ (known-either (is_name text) (registered (register_of_text text)) (Err OtherForm) (known-registered (register_of_text text)) (known-form _))
-    (known-either (is_target f && is_name text) (ranged_if_defined f (d text)) (ranged_if_read f (number_of_text text)) (known-ranged_if_defined f (d text)) (known-ranged_if_read f (number_of_text text)))
+    (known-either (is_target f && is_name text) (ranged_if_defined f (d text)) (ranged_if_read f (number_of_text text)) (known-distant f (d text)) (known-written f (number_of_text text)))
 
 known-earlier : (b : Bool) (j k : FaultKind) → (j ≡ UnknownMnemonic → ⊥) → (k ≡ UnknownMnemonic → ⊥) → (if b then k else j) ≡ UnknownMnemonic → ⊥
 known-earlier true j k h i = i

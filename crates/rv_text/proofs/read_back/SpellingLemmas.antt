@@ -77,17 +77,17 @@ record UpperIs (z : ℤ) : Type 0 where
   is_placed : twos_complement 32 z / 2 ^ 12 * 2 ^ 12 ≡ bits (twos_complement 32 z) 14 12 * 2 ^ 12 + bits (twos_complement 32 z) 19 15 * 2 ^ 15 + bits (twos_complement 32 z) 24 20 * 2 ^ 20 + bits (twos_complement 32 z) 31 25 * 2 ^ 25
   is_small : pos (twos_complement 32 z / 2 ^ 12) ≤ℤ pos 1048575
 
-spelled_upper-placed : (n : ℕ) → n < 2 ^ 32 → n / 2 ^ 12 * 2 ^ 12 ≡ bits n 14 12 * 2 ^ 12 + bits n 19 15 * 2 ^ 15 + bits n 24 20 * 2 ^ 20 + bits n 31 25 * 2 ^ 25
-spelled_upper-placed n h = omega arith
+upper-placed : (n : ℕ) → n < 2 ^ 32 → n / 2 ^ 12 * 2 ^ 12 ≡ bits n 14 12 * 2 ^ 12 + bits n 19 15 * 2 ^ 15 + bits n 24 20 * 2 ^ 20 + bits n 31 25 * 2 ^ 25
+upper-placed n h = omega arith
 
-spelled_upper-is : (z : ℤ) → negsuc 2147483647 ≤ℤ z → z ≤ℤ pos 2147479552 → UpperIs z
-spelled_upper-is (pos n) f t = record { is_placed = spelled_upper-placed n (omega (arith, ints)); is_small = omega (arith, ints) }
-spelled_upper-is (negsuc n) f t = record { is_placed = spelled_upper-placed (2 ^ 32 - suc n) (omega (arith, ints)); is_small = omega (arith, ints) }
+upper-is : (z : ℤ) → negsuc 2147483647 ≤ℤ z → z ≤ℤ pos 2147479552 → UpperIs z
+upper-is (pos n) f t = record { is_placed = upper-placed n (omega (arith, ints)); is_small = omega (arith, ints) }
+upper-is (negsuc n) f t = record { is_placed = upper-placed (2 ^ 32 - suc n) (omega (arith, ints)); is_small = omega (arith, ints) }
 
 -- ---- the law of each form
-pub spelled_registers-law : (name : List ℕ) (base opcode funct3 funct7 : ℕ) → is_mnemonic name ≡ true → row_named name ≡ Some (row Registers base) → base ≡ opcode + funct3 * 2 ^ 12 + funct7 * 2 ^ 25 → (r : RType) → IsSpelled (spelled_registers name r) (r_word opcode funct3 funct7 r)
+pub registers-law : (name : List ℕ) (base opcode funct3 funct7 : ℕ) → is_mnemonic name ≡ true → row_named name ≡ Some (row Registers base) → base ≡ opcode + funct3 * 2 ^ 12 + funct7 * 2 ^ 25 → (r : RType) → IsSpelled (spelled_registers name r) (r_word opcode funct3 funct7 r)
 unfolding placed
-spelled_registers-law name base opcode funct3 funct7 m n e r = record {
+registers-law name base opcode funct3 funct7 m n e r = record {
   base = base;
   is_a_mnemonic = m;
   is_named = n;
@@ -95,9 +95,9 @@ spelled_registers-law name base opcode funct3 funct7 m n e r = record {
   is_word = omega arith;
 }
 
-pub spelled_immediate-law : (name : List ℕ) (base opcode funct3 : ℕ) → is_mnemonic name ≡ true → row_named name ≡ Some (row Immediate base) → base ≡ opcode + funct3 * 2 ^ 12 → (i : IType) → IsSpelled (spelled_immediate name i) (i_word opcode funct3 i)
+pub immediate-law : (name : List ℕ) (base opcode funct3 : ℕ) → is_mnemonic name ≡ true → row_named name ≡ Some (row Immediate base) → base ≡ opcode + funct3 * 2 ^ 12 → (i : IType) → IsSpelled (spelled_immediate name i) (i_word opcode funct3 i)
 unfolding placed
-spelled_immediate-law name base opcode funct3 m n e i =
+immediate-law name base opcode funct3 m n e i =
     let same = i-bits (twos_complement 12 i.imm) (small-12 i.imm i.imm_from i.imm_to) in
     record {
       base = base;
@@ -107,9 +107,9 @@ spelled_immediate-law name base opcode funct3 m n e i =
       is_word = omega arith;
     }
 
-pub spelled_shifted-law : (name : List ℕ) (base opcode funct3 funct7 : ℕ) → is_mnemonic name ≡ true → row_named name ≡ Some (row Shift base) → base ≡ opcode + funct3 * 2 ^ 12 + funct7 * 2 ^ 25 → (s : ShiftType) → IsSpelled (spelled_shifted name s) (shift_word opcode funct3 funct7 s)
+pub shifted-law : (name : List ℕ) (base opcode funct3 funct7 : ℕ) → is_mnemonic name ≡ true → row_named name ≡ Some (row Shift base) → base ≡ opcode + funct3 * 2 ^ 12 + funct7 * 2 ^ 25 → (s : ShiftType) → IsSpelled (spelled_shifted name s) (shift_word opcode funct3 funct7 s)
 unfolding placed
-spelled_shifted-law name base opcode funct3 funct7 m n e s =
+shifted-law name base opcode funct3 funct7 m n e s =
     let same = shift-bits s.imm s.imm_from in
     record {
       base = base;
@@ -119,9 +119,9 @@ spelled_shifted-law name base opcode funct3 funct7 m n e s =
       is_word = omega arith;
     }
 
-pub spelled_based-law : (name : List ℕ) (base opcode funct3 : ℕ) → is_mnemonic name ≡ true → row_named name ≡ Some (row Based base) → base ≡ opcode + funct3 * 2 ^ 12 → (i : IType) → IsSpelled (spelled_based name i) (i_word opcode funct3 i)
+pub based-law : (name : List ℕ) (base opcode funct3 : ℕ) → is_mnemonic name ≡ true → row_named name ≡ Some (row Based base) → base ≡ opcode + funct3 * 2 ^ 12 → (i : IType) → IsSpelled (spelled_based name i) (i_word opcode funct3 i)
 unfolding placed
-spelled_based-law name base opcode funct3 m n e i =
+based-law name base opcode funct3 m n e i =
     let same = i-bits (twos_complement 12 i.imm) (small-12 i.imm i.imm_from i.imm_to) in
     record {
       base = base;
@@ -131,9 +131,9 @@ spelled_based-law name base opcode funct3 m n e i =
       is_word = omega arith;
     }
 
-pub spelled_stored-law : (name : List ℕ) (base opcode funct3 : ℕ) → is_mnemonic name ≡ true → row_named name ≡ Some (row Store base) → base ≡ opcode + funct3 * 2 ^ 12 → (s : SType) → IsSpelled (spelled_stored name s) (s_word opcode funct3 s)
+pub stored-law : (name : List ℕ) (base opcode funct3 : ℕ) → is_mnemonic name ≡ true → row_named name ≡ Some (row Store base) → base ≡ opcode + funct3 * 2 ^ 12 → (s : SType) → IsSpelled (spelled_stored name s) (s_word opcode funct3 s)
 unfolding placed
-spelled_stored-law name base opcode funct3 m n e s = record {
+stored-law name base opcode funct3 m n e s = record {
   base = base;
   is_a_mnemonic = m;
   is_named = n;
@@ -141,9 +141,9 @@ spelled_stored-law name base opcode funct3 m n e s = record {
   is_word = omega arith;
 }
 
-pub spelled_branch-law : (name : List ℕ) (base opcode funct3 : ℕ) → is_mnemonic name ≡ true → row_named name ≡ Some (row Branch base) → base ≡ opcode + funct3 * 2 ^ 12 → (b : BType) → IsSpelled (spelled_branch name b) (b_word opcode funct3 b)
+pub branch-law : (name : List ℕ) (base opcode funct3 : ℕ) → is_mnemonic name ≡ true → row_named name ≡ Some (row Branch base) → base ≡ opcode + funct3 * 2 ^ 12 → (b : BType) → IsSpelled (spelled_branch name b) (b_word opcode funct3 b)
 unfolding placed
-spelled_branch-law name base opcode funct3 m n e b = record {
+branch-law name base opcode funct3 m n e b = record {
   base = base;
   is_a_mnemonic = m;
   is_named = n;
@@ -151,9 +151,9 @@ spelled_branch-law name base opcode funct3 m n e b = record {
   is_word = omega arith;
 }
 
-pub spelled_jump-law : (name : List ℕ) (base opcode : ℕ) → is_mnemonic name ≡ true → row_named name ≡ Some (row Jump base) → base ≡ opcode → (j : JType) → IsSpelled (spelled_jump name j) (j_word opcode j)
+pub jump-law : (name : List ℕ) (base opcode : ℕ) → is_mnemonic name ≡ true → row_named name ≡ Some (row Jump base) → base ≡ opcode → (j : JType) → IsSpelled (spelled_jump name j) (j_word opcode j)
 unfolding placed
-spelled_jump-law name base opcode m n e j =
+jump-law name base opcode m n e j =
     let same = j-bits (twos_complement 21 j.imm) in
     record {
       base = base;
@@ -163,10 +163,10 @@ spelled_jump-law name base opcode m n e j =
       is_word = omega arith;
     }
 
-pub spelled_upper-law : (name : List ℕ) (base opcode : ℕ) → is_mnemonic name ≡ true → row_named name ≡ Some (row Upper base) → base ≡ opcode → (u : UType) → IsSpelled (spelled_upper name u) (u_word opcode u)
+pub upper-law : (name : List ℕ) (base opcode : ℕ) → is_mnemonic name ≡ true → row_named name ≡ Some (row Upper base) → base ≡ opcode → (u : UType) → IsSpelled (spelled_upper name u) (u_word opcode u)
 unfolding placed
-spelled_upper-law name base opcode m n e u =
-    let fine = spelled_upper-is u.imm u.imm_from u.imm_to in
+upper-law name base opcode m n e u =
+    let fine = upper-is u.imm u.imm_from u.imm_to in
     let same = fine.is_placed in
     record {
       base = base;
@@ -176,8 +176,8 @@ spelled_upper-law name base opcode m n e u =
       is_word = omega arith;
     }
 
-pub spelled_alone-law : (name : List ℕ) (base w : ℕ) → is_mnemonic name ≡ true → row_named name ≡ Some (row Alone base) → base ≡ w → IsSpelled (spelled_alone name) w
-spelled_alone-law name base w m n e = record { base = base; is_a_mnemonic = m; is_named = n; is_fit = refl; is_word = omega arith }
+pub alone-law : (name : List ℕ) (base w : ℕ) → is_mnemonic name ≡ true → row_named name ≡ Some (row Alone base) → base ≡ w → IsSpelled (spelled_alone name) w
+alone-law name base w m n e = record { base = base; is_a_mnemonic = m; is_named = n; is_fit = refl; is_word = omega arith }
 
 pub raw-law : (w : ℕ) → w < 2 ^ 32 → IsSpelled (raw w) w
 unfolding row_named
@@ -196,58 +196,58 @@ fence-word n e = omega arith
 fence-law : (f : FenceType) → word_of (Fence f) < 2 ^ 32 → IsSpelled (spelling_of (Fence f)) (word_of (Fence f))
 unfolding spelling_of word_of row_named
 fence-law f h = elim (f.fields == 0x0ff00000) as (λ b. (f.fields == 0x0ff00000) ≡ b → IsSpelled (if b then spelled_alone (codes "fence") else raw (word_of (Fence f))) (word_of (Fence f))) [
-  | true ↦ λ e. spelled_alone-law (codes "fence") 0x0ff0000f _ refl refl (fence-word f.fields (eqb-true f.fields 0x0ff00000 e))
+  | true ↦ λ e. alone-law (codes "fence") 0x0ff0000f _ refl refl (fence-word f.fields (eqb-true f.fields 0x0ff00000 e))
   | false ↦ λ e. raw-law (word_of (Fence f)) h
 ] refl
 
 -- ---- the law of each instruction
 pub spellings : (i : Instr) → word_of i < 2 ^ 32 → IsSpelled (spelling_of i) (word_of i)
 unfolding spelling_of word_of row_named
-spellings (Lui t) h = spelled_upper-law (codes "lui") 0x00000037 0b0110111 refl refl refl t
-spellings (Auipc t) h = spelled_upper-law (codes "auipc") 0x00000017 0b0010111 refl refl refl t
-spellings (Jal t) h = spelled_jump-law (codes "jal") 0x0000006f 0b1101111 refl refl refl t
-spellings (Jalr t) h = spelled_based-law (codes "jalr") 0x00000067 0b1100111 0b000 refl refl refl t
-spellings (Beq t) h = spelled_branch-law (codes "beq") 0x00000063 0b1100011 0b000 refl refl refl t
-spellings (Bne t) h = spelled_branch-law (codes "bne") 0x00001063 0b1100011 0b001 refl refl refl t
-spellings (Blt t) h = spelled_branch-law (codes "blt") 0x00004063 0b1100011 0b100 refl refl refl t
-spellings (Bge t) h = spelled_branch-law (codes "bge") 0x00005063 0b1100011 0b101 refl refl refl t
-spellings (Bltu t) h = spelled_branch-law (codes "bltu") 0x00006063 0b1100011 0b110 refl refl refl t
-spellings (Bgeu t) h = spelled_branch-law (codes "bgeu") 0x00007063 0b1100011 0b111 refl refl refl t
-spellings (Lb t) h = spelled_based-law (codes "lb") 0x00000003 0b0000011 0b000 refl refl refl t
-spellings (Lh t) h = spelled_based-law (codes "lh") 0x00001003 0b0000011 0b001 refl refl refl t
-spellings (Lw t) h = spelled_based-law (codes "lw") 0x00002003 0b0000011 0b010 refl refl refl t
-spellings (Lbu t) h = spelled_based-law (codes "lbu") 0x00004003 0b0000011 0b100 refl refl refl t
-spellings (Lhu t) h = spelled_based-law (codes "lhu") 0x00005003 0b0000011 0b101 refl refl refl t
-spellings (Sb t) h = spelled_stored-law (codes "sb") 0x00000023 0b0100011 0b000 refl refl refl t
-spellings (Sh t) h = spelled_stored-law (codes "sh") 0x00001023 0b0100011 0b001 refl refl refl t
-spellings (Sw t) h = spelled_stored-law (codes "sw") 0x00002023 0b0100011 0b010 refl refl refl t
-spellings (Addi t) h = spelled_immediate-law (codes "addi") 0x00000013 0b0010011 0b000 refl refl refl t
-spellings (Slti t) h = spelled_immediate-law (codes "slti") 0x00002013 0b0010011 0b010 refl refl refl t
-spellings (Sltiu t) h = spelled_immediate-law (codes "sltiu") 0x00003013 0b0010011 0b011 refl refl refl t
-spellings (Xori t) h = spelled_immediate-law (codes "xori") 0x00004013 0b0010011 0b100 refl refl refl t
-spellings (Ori t) h = spelled_immediate-law (codes "ori") 0x00006013 0b0010011 0b110 refl refl refl t
-spellings (Andi t) h = spelled_immediate-law (codes "andi") 0x00007013 0b0010011 0b111 refl refl refl t
-spellings (Slli t) h = spelled_shifted-law (codes "slli") 0x00001013 0b0010011 0b001 0b0000000 refl refl refl t
-spellings (Srli t) h = spelled_shifted-law (codes "srli") 0x00005013 0b0010011 0b101 0b0000000 refl refl refl t
-spellings (Srai t) h = spelled_shifted-law (codes "srai") 0x40005013 0b0010011 0b101 0b0100000 refl refl refl t
-spellings (Add t) h = spelled_registers-law (codes "add") 0x00000033 0b0110011 0b000 0b0000000 refl refl refl t
-spellings (Sub t) h = spelled_registers-law (codes "sub") 0x40000033 0b0110011 0b000 0b0100000 refl refl refl t
-spellings (Sll t) h = spelled_registers-law (codes "sll") 0x00001033 0b0110011 0b001 0b0000000 refl refl refl t
-spellings (Slt t) h = spelled_registers-law (codes "slt") 0x00002033 0b0110011 0b010 0b0000000 refl refl refl t
-spellings (Sltu t) h = spelled_registers-law (codes "sltu") 0x00003033 0b0110011 0b011 0b0000000 refl refl refl t
-spellings (Xor t) h = spelled_registers-law (codes "xor") 0x00004033 0b0110011 0b100 0b0000000 refl refl refl t
-spellings (Srl t) h = spelled_registers-law (codes "srl") 0x00005033 0b0110011 0b101 0b0000000 refl refl refl t
-spellings (Sra t) h = spelled_registers-law (codes "sra") 0x40005033 0b0110011 0b101 0b0100000 refl refl refl t
-spellings (Or t) h = spelled_registers-law (codes "or") 0x00006033 0b0110011 0b110 0b0000000 refl refl refl t
-spellings (And t) h = spelled_registers-law (codes "and") 0x00007033 0b0110011 0b111 0b0000000 refl refl refl t
-spellings (Mul t) h = spelled_registers-law (codes "mul") 0x02000033 0b0110011 0b000 0b0000001 refl refl refl t
-spellings (Mulh t) h = spelled_registers-law (codes "mulh") 0x02001033 0b0110011 0b001 0b0000001 refl refl refl t
-spellings (Mulhsu t) h = spelled_registers-law (codes "mulhsu") 0x02002033 0b0110011 0b010 0b0000001 refl refl refl t
-spellings (Mulhu t) h = spelled_registers-law (codes "mulhu") 0x02003033 0b0110011 0b011 0b0000001 refl refl refl t
-spellings (Div t) h = spelled_registers-law (codes "div") 0x02004033 0b0110011 0b100 0b0000001 refl refl refl t
-spellings (Divu t) h = spelled_registers-law (codes "divu") 0x02005033 0b0110011 0b101 0b0000001 refl refl refl t
-spellings (Rem t) h = spelled_registers-law (codes "rem") 0x02006033 0b0110011 0b110 0b0000001 refl refl refl t
-spellings (Remu t) h = spelled_registers-law (codes "remu") 0x02007033 0b0110011 0b111 0b0000001 refl refl refl t
+spellings (Lui t) h = upper-law (codes "lui") 0x00000037 0b0110111 refl refl refl t
+spellings (Auipc t) h = upper-law (codes "auipc") 0x00000017 0b0010111 refl refl refl t
+spellings (Jal t) h = jump-law (codes "jal") 0x0000006f 0b1101111 refl refl refl t
+spellings (Jalr t) h = based-law (codes "jalr") 0x00000067 0b1100111 0b000 refl refl refl t
+spellings (Beq t) h = branch-law (codes "beq") 0x00000063 0b1100011 0b000 refl refl refl t
+spellings (Bne t) h = branch-law (codes "bne") 0x00001063 0b1100011 0b001 refl refl refl t
+spellings (Blt t) h = branch-law (codes "blt") 0x00004063 0b1100011 0b100 refl refl refl t
+spellings (Bge t) h = branch-law (codes "bge") 0x00005063 0b1100011 0b101 refl refl refl t
+spellings (Bltu t) h = branch-law (codes "bltu") 0x00006063 0b1100011 0b110 refl refl refl t
+spellings (Bgeu t) h = branch-law (codes "bgeu") 0x00007063 0b1100011 0b111 refl refl refl t
+spellings (Lb t) h = based-law (codes "lb") 0x00000003 0b0000011 0b000 refl refl refl t
+spellings (Lh t) h = based-law (codes "lh") 0x00001003 0b0000011 0b001 refl refl refl t
+spellings (Lw t) h = based-law (codes "lw") 0x00002003 0b0000011 0b010 refl refl refl t
+spellings (Lbu t) h = based-law (codes "lbu") 0x00004003 0b0000011 0b100 refl refl refl t
+spellings (Lhu t) h = based-law (codes "lhu") 0x00005003 0b0000011 0b101 refl refl refl t
+spellings (Sb t) h = stored-law (codes "sb") 0x00000023 0b0100011 0b000 refl refl refl t
+spellings (Sh t) h = stored-law (codes "sh") 0x00001023 0b0100011 0b001 refl refl refl t
+spellings (Sw t) h = stored-law (codes "sw") 0x00002023 0b0100011 0b010 refl refl refl t
+spellings (Addi t) h = immediate-law (codes "addi") 0x00000013 0b0010011 0b000 refl refl refl t
+spellings (Slti t) h = immediate-law (codes "slti") 0x00002013 0b0010011 0b010 refl refl refl t
+spellings (Sltiu t) h = immediate-law (codes "sltiu") 0x00003013 0b0010011 0b011 refl refl refl t
+spellings (Xori t) h = immediate-law (codes "xori") 0x00004013 0b0010011 0b100 refl refl refl t
+spellings (Ori t) h = immediate-law (codes "ori") 0x00006013 0b0010011 0b110 refl refl refl t
+spellings (Andi t) h = immediate-law (codes "andi") 0x00007013 0b0010011 0b111 refl refl refl t
+spellings (Slli t) h = shifted-law (codes "slli") 0x00001013 0b0010011 0b001 0b0000000 refl refl refl t
+spellings (Srli t) h = shifted-law (codes "srli") 0x00005013 0b0010011 0b101 0b0000000 refl refl refl t
+spellings (Srai t) h = shifted-law (codes "srai") 0x40005013 0b0010011 0b101 0b0100000 refl refl refl t
+spellings (Add t) h = registers-law (codes "add") 0x00000033 0b0110011 0b000 0b0000000 refl refl refl t
+spellings (Sub t) h = registers-law (codes "sub") 0x40000033 0b0110011 0b000 0b0100000 refl refl refl t
+spellings (Sll t) h = registers-law (codes "sll") 0x00001033 0b0110011 0b001 0b0000000 refl refl refl t
+spellings (Slt t) h = registers-law (codes "slt") 0x00002033 0b0110011 0b010 0b0000000 refl refl refl t
+spellings (Sltu t) h = registers-law (codes "sltu") 0x00003033 0b0110011 0b011 0b0000000 refl refl refl t
+spellings (Xor t) h = registers-law (codes "xor") 0x00004033 0b0110011 0b100 0b0000000 refl refl refl t
+spellings (Srl t) h = registers-law (codes "srl") 0x00005033 0b0110011 0b101 0b0000000 refl refl refl t
+spellings (Sra t) h = registers-law (codes "sra") 0x40005033 0b0110011 0b101 0b0100000 refl refl refl t
+spellings (Or t) h = registers-law (codes "or") 0x00006033 0b0110011 0b110 0b0000000 refl refl refl t
+spellings (And t) h = registers-law (codes "and") 0x00007033 0b0110011 0b111 0b0000000 refl refl refl t
+spellings (Mul t) h = registers-law (codes "mul") 0x02000033 0b0110011 0b000 0b0000001 refl refl refl t
+spellings (Mulh t) h = registers-law (codes "mulh") 0x02001033 0b0110011 0b001 0b0000001 refl refl refl t
+spellings (Mulhsu t) h = registers-law (codes "mulhsu") 0x02002033 0b0110011 0b010 0b0000001 refl refl refl t
+spellings (Mulhu t) h = registers-law (codes "mulhu") 0x02003033 0b0110011 0b011 0b0000001 refl refl refl t
+spellings (Div t) h = registers-law (codes "div") 0x02004033 0b0110011 0b100 0b0000001 refl refl refl t
+spellings (Divu t) h = registers-law (codes "divu") 0x02005033 0b0110011 0b101 0b0000001 refl refl refl t
+spellings (Rem t) h = registers-law (codes "rem") 0x02006033 0b0110011 0b110 0b0000001 refl refl refl t
+spellings (Remu t) h = registers-law (codes "remu") 0x02007033 0b0110011 0b111 0b0000001 refl refl refl t
 spellings (Fence f) h = fence-law f h
-spellings Ecall h = spelled_alone-law (codes "ecall") 0x00000073 _ refl refl refl
-spellings Ebreak h = spelled_alone-law (codes "ebreak") 0x00100073 _ refl refl refl
+spellings Ecall h = alone-law (codes "ecall") 0x00000073 _ refl refl refl
+spellings Ebreak h = alone-law (codes "ebreak") 0x00100073 _ refl refl refl

@@ -1,4 +1,4 @@
--- What is ranged_if_read in slots is read back by them: one induction over the slots, for every form.
+-- What is written in slots is read back by them: one induction over the slots, for every form.
 use Rattle.std.proofs.Common.{◌≡◌, ℕ, ◌^◌, ◌<◌, true, false, List, [], ◌∷◌, ◌++◌, refl, ap, ◌∙◌, sym, arith, ℤ, pos, negsuc, Option, option_map, unsigned_abs, Result, Ok, Err}
 use Rattle.std.proofs.lemmas.Bool.{false≢true, and_parts}
 use Rattle.std.proofs.lemmas.Bool.Decides.{nat_tests}
