@@ -36,7 +36,7 @@ pub fn extensions_keep_bits()
     ensures { (width n : ℕ) → 1 ≤ width → width ≤ 4 → ExtendsBits width n }
 {}
 
-/// Each bit of AND, OR and XOR comes of the two bits at its place (`combined`), and two words with the same bits are one (`same`).
+/// Each bit of AND, OR and XOR is made of the two bits at its place (`combined`), and two words with the same bits are one (`same`).
 pub fn words_are_their_bits()
     ensures combined { (a b : ℕ) → CombinesBits a b }
     ensures same { (a b : ℕ) → a < 2 ^ 32 → b < 2 ^ 32 → ((i : ℕ) → i < 32 → bit_at a i ≡ bit_at b i) → a ≡ b }

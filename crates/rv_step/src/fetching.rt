@@ -18,12 +18,8 @@ pub fn number_in_chunk(chunk: &[u8; 32], at: usize, width: u8) -> u32
 {
     match width {
         1 => u32::from(chunk[at]),
-        2 => u32::from(chunk[at]) + 256 * u32::from(chunk[at + 1]),
-        _ => {
-            let low = u32::from(chunk[at]) + 256 * u32::from(chunk[at + 1]);
-            let high = u32::from(chunk[at + 2]) + 256 * u32::from(chunk[at + 3]);
-            low + 65536 * high
-        }
+        2 => u32::from(u16::from_le_bytes([chunk[at], chunk[at + 1]])),
+        _ => u32::from_le_bytes([chunk[at], chunk[at + 1], chunk[at + 2], chunk[at + 3]]),
     }
 }
 

@@ -23,10 +23,10 @@ use rd_base::{Status, registers_are_32};
 /// The two parts of a step are the step, for every state and instruction (`step`): what `need` names is read or
 /// written, and `finish` does the rest, with the number that was read, or with any if none was.
 ///
-/// The same for whoever reads memory in another way, if no input is offered (`any_reader`): by what is needed, the effect
-/// of an instruction reads nothing or that one number and leaves memory as it is, or it is that store, or that trap. What is
-/// read or written is 1, 2 or 4 bytes at a multiple of their number (`aligned`). And for whoever reads memory and offers the
-/// input in another way, however it is held (`any_offer`): the effect is what `finish` makes of the number that is needed.
+/// If no input is offered, the effect of an instruction is as its need says, whatever memory gives (`any_reader`): it reads
+/// nothing or that one number, and leaves memory as it is; or it is that store; or it is that trap. What is read or written is
+/// 1, 2 or 4 bytes at a multiple of their number (`aligned`). Whatever memory gives and whatever is offered of the input, the
+/// effect is what `finish` makes of the number that is needed, or it is that store or that trap (`any_offer`).
 pub fn two_parts_are_the_step()
     ensures step { (s : State) (i : Instr) (any : ℕ) → by_parts s i any (needed_in (scheme_of s.version).input s.regs i) ≡ after_effect s (effect_at s i) }
     ensures any_reader { (xs : List ℕ) (pc : ℕ) (read : ℕ → ℕ → ℕ) (i : Instr) →
@@ -46,9 +46,9 @@ pub fn needs_tell_what_is_read()
         AsksAsNeeded (λ byte. effect_with (offered input byte) xs pc read i) (needed_in input xs i) }
 {}
 
-/// What an instruction does and what it needs depends on the registers that it names alone: two register files in which these
-/// hold the same, and x0 too, give one effect (`effect`) and one need (`needed`). It writes no register but its destination
-/// (`writes`).
+/// What an instruction does and what it needs depend only on `x0` and the registers that it names. If two register files hold the
+/// same in these, the instruction has the same effect over both (`effect`), and the same need (`needed`). It writes no register
+/// but its destination (`writes`).
 pub fn effects_read_named_registers()
     ensures effect { (offer : Option (ℕ → ℕ)) (xs ys : List ℕ) (pc : ℕ) (read : ℕ → ℕ → ℕ) (i : Instr) → slice_index xs 0 ≡ slice_index ys 0 →
         map (λ r. slice_index xs r) (named i) ≡ map (λ r. slice_index ys r) (named i) → effect_with offer xs pc read i ≡ effect_with offer ys pc read i }
@@ -57,14 +57,14 @@ pub fn effects_read_named_registers()
     ensures writes { (offer : Option (ℕ → ℕ)) (xs : List ℕ) (pc : ℕ) (read : ℕ → ℕ → ℕ) (i : Instr) → WritesOnly (destination i) (effect_with offer xs pc read i) }
 {}
 
-/// What is named are registers.
+/// Each register that an instruction names is one of `x0` to `x31`.
 pub fn names_are_registers()
     ensures { (o : Option Instr) → AreRegisters (named_by o) }
 {}
 
-/// A step depends on the registers that its instruction names alone (`alike`): with a register file that shows these, all but
-/// the registers is the same after it, and so is each register that was the same. It changes at most one register, and a
-/// named one (`changes`).
+/// A step depends only on `x0` and the registers that its instruction names (`alike`). Let the state have another register file
+/// that holds the same in these: after the step everything but the registers is the same in both states, and so is each register
+/// that was the same before it. A step changes at most one register, one that its instruction names (`changes`).
 pub fn steps_read_named_registers()
     ensures alike { (xs : List ℕ) (s : State) → Shows xs s → StepAlike xs s (step (with_registers xs s)) (step s) }
     ensures changes { (s : State) → ChangesNamed s }
@@ -91,7 +91,7 @@ pub fn stopped_states_stay()
     ensures { (s : State) → is_running s.status ≡ false → step s ≡ s }
 {}
 
-/// A step keeps the output, or puts bytes behind it.
+/// A step keeps the output, or appends bytes to it.
 pub fn output_only_grows()
     ensures { (s : State) → (more : List ℕ) × ((step s).output ≡ s.output ++ more) }
 {}

@@ -10,7 +10,7 @@
 //! its memory and its input, a referee the opened parts of a proof. `apply` is the other half that they share: it changes registers, pc
 //! and status by an effect. What is left to each of them is a store and a byte of output.
 //!
-//! `need` and `finish` are the same step, cut in another place. `need` finds from registers alone the one number of memory that an
+//! `need` and `finish` are the same step, cut in another place. `need` finds, from registers only, the one number of memory that an
 //! instruction reads or writes, or the byte of the input that it reads. `finish` changes registers and pc, and returns what is left to do.
 //! Both together are the step, whoever holds memory and the input (`two_parts_are_the_step`), and nothing else is read
 //! (`needs_tell_what_is_read`). `need_by` is `need` by how the input is held.
@@ -25,7 +25,7 @@
 //! A machine has a version, that of the commitment to its states. In versions 1 and 2 its input lies in memory; in version 3
 //! it is offered to a call, byte by byte.
 //!
-//! The other laws are in `laws`: that a step reads the registers alone that its instruction names and changes at most one of
+//! The other laws are in `laws`: that a step reads only the registers that its instruction names and changes at most one of
 //! them, which bytes a step leaves, that a stopped state stays and output only grows, that a run keeps version and input and
 //! puts out at most one byte a step, and that each machine's state is valid and steps keep it so. `arithmetic_laws` has the
 //! manual's sentences on arithmetic, of all words: sums, products, divisions, shifts, extensions, and that what was stored is loaded.

@@ -4,6 +4,7 @@ ghost use Rattle.rv_step.specs.Named as named;
 
 use crate::effect::{ARGUMENT_REGISTER, CALL_REGISTER};
 use crate::laws::names_are_registers;
+use arrayvec::ArrayVec;
 use rv_decode::{Fields, Instr, fields_of};
 use std::marker::Model;
 
@@ -12,39 +13,34 @@ use std::marker::Model;
 /// Contracts see them as the list of their numbers.
 #[derive(Debug, Drop)]
 pub struct Names {
-    items: [u8; 3],
-    len: usize,
+    registers: ArrayVec<u8, 3>,
 }
 
 impl Model for Names {
-    ghost use Rattle.std.specs.Prelude.{List, ℕ, ◌≤◌, take};
+    ghost use Rattle.std.specs.Prelude.{List, ℕ};
 
     ghost Value = { List ℕ };
 
-    ghost view = { λ n. take n.len n.items };
-
-    ghost invariant = { λ n. n.len ≤ 3 };
+    ghost view = { λ n. n.registers.items };
 }
 
 impl Names {
-    /// None.
+    /// No register.
     fn new() -> Self
         ensures { result ≡ [] }
     {
         Names {
-            items: [0; 3],
-            len: 0,
+            registers: ArrayVec::new(),
         }
     }
 
-    /// One more behind the others, if it is kept.
+    /// Appends a register to fewer than three, if it is to be kept.
     fn push(&mut self, kept: bool, reg: u8)
         requires { length self.old < 3 }
         ensures { self.new ≡ self.old ++ named.if_named kept reg }
     {
         if kept {
-            self.items[self.len] = reg;
-            self.len += 1;
+            self.registers.push(reg);
         }
     }
 
@@ -53,7 +49,7 @@ impl Names {
         ensures value { result.now ≡ self.now }
         ensures few { length self.now ≤ 3 }
     {
-        &self.items[..self.len]
+        self.registers.as_slice()
     }
 }
 
@@ -77,7 +73,7 @@ fn registers_of(instr: &Instr) -> (u8, u8, u8)
     }
 }
 
-/// Three registers without `x0`, each at its first place.
+/// Those of three registers that aren't `x0`, each where it comes first.
 fn once(a: u8, b: u8, c: u8) -> Names
     ensures { result ≡ named.once a b c }
 {

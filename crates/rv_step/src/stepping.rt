@@ -33,7 +33,8 @@ fn number_for<A: StateAccess>(state: &A, asked: &Need) -> u32
     }
 }
 
-/// The effect of an instruction that is at `pc`: what it needs is read, unless that is known to be a trap before.
+/// The effect of an instruction that is at `pc`. What it needs is read first; if the need is a trap, nothing is read, and the effect is
+/// that trap.
 ///
 /// It is inlined with `decode`, so that the instruction isn't written to memory field by field and read back.
 #[inline(always)]
@@ -148,8 +149,8 @@ fn carry_out<D: Digester>(machine: &mut Machine, d: &D, effect: &Effect) -> Resu
 
 /// One step: carries out the word at `pc`. The result is the page that it stored to, which is the store's address / 4,096, as
 /// `touches` would have named it before. A machine that has stopped stays as it is. One whose `pc` isn't a multiple
-/// of 4, whose word is no instruction or whose instruction can't be carried out traps, which changes the status
-/// alone. The machine's chain is its output's by the digester `d`, before and after. An `Err` is out of memory, and
+/// of 4, whose word is no instruction or whose instruction can't be carried out traps, which changes only
+/// the status. The machine's chain is its output's by the digester `d`, before and after. An `Err` is out of memory, and
 /// changes nothing; it comes only if the step stores to a page in which every byte is 0, or writes a byte of output.
 #[inline(always)]
 #[tactic(auto, unfolding(crate::specs::Step::step, crate::specs::Touched::touched))]
@@ -172,7 +173,7 @@ pub fn step<D: Digester>(machine: &mut Machine, d: &D) -> Result<Option<u32>, Me
 }
 
 /// This many steps, which keep the chain by the digester `d`. A machine that has stopped stays as it is. An `Err` is out
-/// of memory in one of the steps: fewer were made, and the machine is before that one, for which memory has to be taken.
+/// of memory: fewer steps were made, and the machine is in the state before the one that had to take memory.
 pub fn advance<D: Digester>(machine: &mut Machine, d: &D, steps: u64) -> Result<(), Memory>
     requires { IsChained D.digest_of machine.old }
     ensures ok { OnOk result (state_of machine.new ≡ state_at (state_of machine.old) steps) }
