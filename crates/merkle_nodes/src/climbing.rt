@@ -59,7 +59,7 @@ fn climb_in<C: Counted, L: Ledger>(
     climb_counted(c, index, leaf, siblings, &mut steps)
 }
 
-/// What `climb_counted` gives, uncounted.
+/// The digest at the top of a path, as `climb_counted` gives it, without a counter.
 pub fn climb<D: Digester>(d: D, index: u32, leaf: &OpenText, siblings: &[Digest32]) -> Digest32
     ensures { result.0 ≡ D.digest_of
         (opened D.digest_of leaf.now (digest_at siblings.now) (length siblings.now) index) }

@@ -19,7 +19,7 @@ pub fn node_equations()
         ≡ digest (node_text (node digest leaf l (2 * k)) (node digest leaf l (2 * k + 1))) }
 {}
 
-/// A node depends on the leaves below it alone.
+/// A node depends only on the leaves below it.
 pub fn nodes_depend_on_leaves_below()
     ensures same { (digest : List ℕ → List ℕ) (leaf other : ℕ → List ℕ) (l k : ℕ) →
         ((j : ℕ) → j / 2 ^ l ≡ k → leaf j ≡ other j) → node digest leaf l k ≡ node digest other l k }
@@ -67,8 +67,9 @@ pub fn heaps_are_trees()
         (l m k : ℕ) → m + l ≡ n → k < 2 ^ m → digest_at nodes (2 ^ m + k) ≡ node digest leaf l k }
 {}
 
-/// If those leaves of a heap are marked that have changed, and those nodes above them of which one of the two below is marked, then as
-/// many nodes are marked as have to be made anew, and the root is marked if and only if some leaf is.
+/// Let a leaf of a heap be marked if and only if it has changed, and a node above the leaves if and only if one of the two below it is
+/// marked. Then as many nodes are marked, leaves counted, as have to be made anew (`many`), and the root is marked if and only if some
+/// leaf has changed (`root`).
 pub fn renewals_are_marked()
     ensures many { (marked changed : ℕ → Bool) (n : ℕ) → ((k : ℕ) → k < 2 ^ n → marked (2 ^ n + k) ≡ changed k) →
         ((i : ℕ) → 1 ≤ i → i < 2 ^ n → marked i ≡ (marked (2 * i) || marked (2 * i + 1))) →
@@ -95,8 +96,9 @@ pub fn paths_open_strings_of_the_tree()
     paths_climb_to_nodes();
 }
 
-/// A root binds its tree: two trees of any number of levels that have one root have the same leaf strings, or a string of the one and a
-/// different string of the other have one digest (`leaves`). So it is of two strings alone (`strings`).
+/// A root binds its tree. Two trees of the same number of levels, whatever it is, that have one root have the same leaf strings, or a
+/// string of the one and a different string of the other have one digest (`leaves`). Of two strings with one digest the same holds: they
+/// are the same, or they are two different strings with one digest (`strings`).
 pub fn roots_bind_trees()
     ensures leaves { (digest : List ℕ → List ℕ) → ((bytes : List ℕ) → length (digest bytes) ≡ 32) → (leaf other : ℕ → List ℕ) (n : ℕ) →
         node digest leaf n 0 ≡ node digest other n 0 →
