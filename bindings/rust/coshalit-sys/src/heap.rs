@@ -1,4 +1,4 @@
-//! The memory that the library asks for, by malloc, realloc and free, which every Rust program with `std` links. `examples/embed/heap.c`
+//! The memory that the library asks for, by malloc, realloc and free, which every Rust program with `std` links. `bindings/go/heap.c`
 //! says what the three functions must do.
 
 use core::ffi::c_void;

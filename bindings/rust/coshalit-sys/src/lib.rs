@@ -2,7 +2,7 @@
 //! gives and promises; the crate `coshalit` has it in safe Rust.
 //!
 //! The library asks for memory by three functions. The feature `malloc`, which is on by default, brings them along. Without it the program
-//! has to define `rattle_alloc`, `rattle_realloc` and `rattle_dealloc`, as `examples/embed/heap.c` says.
+//! has to define `rattle_alloc`, `rattle_realloc` and `rattle_dealloc`, as `bindings/go/heap.c` says.
 #![no_std]
 
 #[cfg(feature = "malloc")]
