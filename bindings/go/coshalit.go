@@ -7,8 +7,13 @@
 //   - ClaimRoot: the root by which claims are compared.
 //
 // What is proved ends at the library. This package passes slices, and gives errors as types; include/coshalit.h says what each call
-// promises. A call can't be stopped: bound the cases and the texts that you give it. All functions may be called from several goroutines at
-// the same time; a Match belongs to one of them.
+// promises. All functions may be called from several goroutines at the same time; a Match belongs to one of them.
+//
+// A call can't be stopped, and its memory can't be bounded from Go, as the package compiles heap.c in. So bound the cases and the texts
+// that you give it. Call it in a process of its own, with a limit on its memory (RLIMIT_AS), and end that process if a call takes too long.
+// Under such a limit a call may be an OutOfMemory, or the runtime of Go may end the process.
+//
+// A call for which no room is known beforehand is made a second time if its answer has more than 4,096 bytes: Run and Prover.Answer.
 package coshalit
 
 /*
@@ -58,20 +63,22 @@ func ClaimRoot(wire []byte) (Root, error) {
 
 // Audit audits a full text, as `judge --full` or Match.Text gives it: the line `confirmed VERDICT`. The error is a Refusal.
 //
-// It is confirmed that the text is one of a legal match with this verdict, and no more: compare its first line with the root of your case's
-// start and the case's numbers, and refuse another digest than sha256.
+// It is confirmed that the text is one of a legal match with this verdict, and no more. So compare its first line: the root with that of
+// your case's start, the version and the bound with the case's, and provers, patience and fan with those that you agreed on. Refuse
+// another digest than sha256.
 func Audit(text []byte) (string, error) {
 	place, length := bytesOf(text)
-	answer, err := textOf(func(room *C.uint8_t, size C.size_t) C.CoshalitAnswer {
+	answer, err := textOf(len(text)+ofARefusal, func(room *C.uint8_t, size C.size_t) C.CoshalitAnswer {
 		return C.coshalit_audit(place, length, room, size)
 	})
 	return string(answer), err
 }
 
-// Run runs the program of a case, a JSON text, up to the case's bound: the line `answer STATUS output BYTES`. The error is a Refusal.
+// Run runs the program of a case, a JSON text, up to the case's bound: the line `answer STATUS output BYTES`. The error is a Refusal. If
+// the line has more than 4,096 bytes, the program is run a second time.
 func Run(json []byte) (string, error) {
 	place, length := bytesOf(json)
-	answer, err := textOf(func(room *C.uint8_t, size C.size_t) C.CoshalitAnswer {
+	answer, err := textOf(firstRoom, func(room *C.uint8_t, size C.size_t) C.CoshalitAnswer {
 		return C.coshalit_run(place, length, room, size)
 	})
 	return string(answer), err
@@ -80,7 +87,7 @@ func Run(json []byte) (string, error) {
 // List lists the image of a case, a JSON text, as assembly text: a line for each word. The error is a Refusal.
 func List(json []byte) (string, error) {
 	place, length := bytesOf(json)
-	answer, err := textOf(func(room *C.uint8_t, size C.size_t) C.CoshalitAnswer {
+	answer, err := textOf(3*len(json)+ofARefusal, func(room *C.uint8_t, size C.size_t) C.CoshalitAnswer {
 		return C.coshalit_list(place, length, room, size)
 	})
 	return string(answer), err
@@ -94,23 +101,27 @@ func bytesOf(bytes []byte) (*C.uint8_t, C.size_t) {
 	return (*C.uint8_t)(unsafe.Pointer(&bytes[0])), C.size_t(len(bytes))
 }
 
-// How many bytes a text may have before a call is made a second time for it.
-const firstRoom = 4096
+const (
+	// How many bytes a text may have, where no length is known beforehand, before a call is made a second time for it.
+	firstRoom = 4096
+	// How many bytes include/coshalit.h adds to most rooms: a refusal has no more.
+	ofARefusal = 64
+)
 
-// What a call answers: its status and its whole text.
-func answerOf(call func(*C.uint8_t, C.size_t) C.CoshalitAnswer) (C.uint32_t, []byte) {
-	text := make([]byte, firstRoom)
+// What a call answers: its status and its whole text. If the text is longer than the first room the call is made a second time.
+func answerOf(room int, call func(*C.uint8_t, C.size_t) C.CoshalitAnswer) (C.uint32_t, []byte) {
+	text := make([]byte, room)
 	found := call(bytesOf(text))
 	if int(found.length) > len(text) {
 		text = make([]byte, found.length)
 		found = call(bytesOf(text))
 	}
-	return found.status, text[:found.length]
+	return found.status, append([]byte(nil), text[:found.length]...)
 }
 
 // The text of a command's answer, or the refusal that it is.
-func textOf(call func(*C.uint8_t, C.size_t) C.CoshalitAnswer) ([]byte, error) {
-	status, text := answerOf(call)
+func textOf(room int, call func(*C.uint8_t, C.size_t) C.CoshalitAnswer) ([]byte, error) {
+	status, text := answerOf(room, call)
 	if status != C.COSHALIT_DONE {
 		return nil, Refusal{Status: Status(status), Text: string(text)}
 	}

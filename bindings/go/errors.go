@@ -114,7 +114,7 @@ type NoLog struct {
 	// At is the byte at which the first entry begins that is none.
 	At    uint64
 	Cause LogCause
-	// Rule is what the bytes of an answer break, 1 to 5 of docs/COMMITMENTS.md; with another cause 0.
+	// Rule is of NoAnswer: the number of the fault in the table of docs/COMMITMENTS.md ('Wire forms'). With another cause it is 0.
 	Rule uint32
 }
 
@@ -124,6 +124,19 @@ func (why NoLog) Error() string {
 		return fmt.Sprintf("no log from byte %d on: it ends within an entry", why.At)
 	case NoProver:
 		return fmt.Sprintf("no log from byte %d on: no prover has the number", why.At)
+	case NoAnswer:
+		return fmt.Sprintf("no log from byte %d on: the answer's bytes are no wire form, fault %d", why.At, why.Rule)
 	}
-	return fmt.Sprintf("no log from byte %d on: the answer's bytes are no wire form, by rule %d", why.At, why.Rule)
+	return fmt.Sprintf("no log from byte %d on: cause %d", why.At, uint32(why.Cause))
+}
+
+// Unknown is the error of a match in which the library says something that this package doesn't know: it is of a later major version. The
+// match is as it was.
+type Unknown struct {
+	What   string // "reply" or "kind"
+	Number uint32
+}
+
+func (why Unknown) Error() string {
+	return fmt.Sprintf("this package knows no %s %d", why.What, why.Number)
 }

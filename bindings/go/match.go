@@ -29,7 +29,7 @@ type Numbers struct {
 type Kind uint32
 
 const (
-	// Claim: the state at the bound, its status and output.
+	// Claim: the state at the bound, with its status and its output.
 	Claim Kind = 1
 	// OneRoot: the root of the state after Low steps.
 	OneRoot Kind = 2
@@ -38,6 +38,10 @@ const (
 	// Roots: the roots at the cuts of the interval from Low to High into Parts parts.
 	Roots Kind = 5
 )
+
+func (kind Kind) isKnown() bool {
+	return kind == Claim || kind == OneRoot || kind == Proof || kind == Roots
+}
 
 func (kind Kind) String() string {
 	switch kind {
@@ -69,9 +73,10 @@ type Reply uint32
 const (
 	// Taken: it is an answer of the right kind, or a pass within the patience.
 	Taken Reply = 1
-	// Faulty: it is an answer of another kind, or an unsound claim: its prover is out.
+	// Faulty: it is an answer of another kind, or an unsound claim. Its prover is out: by a claim at once, in a dispute as soon as the other
+	// side of the round is settled.
 	Faulty Reply = 2
-	// Spent: it is a pass beyond the patience: its prover is out.
+	// Spent: it is a pass beyond the patience. Its prover is out, as by Faulty.
 	Spent Reply = 3
 	// Stale: it names no open question of its prover, and changes nothing.
 	Stale Reply = 4
@@ -131,7 +136,8 @@ type Settlement struct {
 // Match is a match: its numbers, its log, and what it has come to.
 //
 // The log is what one stores, orders, signs and compares: who has the same numbers and the same log has the same match. It grows by Post
-// and Pass only. Who may call these with a prover's number can lose that prover's match: authenticate senders.
+// and Pass only. Who may call these with a prover's number can lose that prover's match: authenticate senders. The match is played anew at
+// each call: docs/OPEN_MATCH.md says what that costs, and what a host has to do.
 type Match struct {
 	numbers   C.CoshalitNumbers
 	log       []byte
@@ -145,9 +151,10 @@ func NewMatch(numbers Numbers) (*Match, error) {
 	return ResumeMatch(numbers, nil)
 }
 
-// ResumeMatch gives the match after a log that was stored. The error is as NewMatch's, or a NoLog.
+// ResumeMatch gives the match after a log that was stored. The error is as NewMatch's, or a NoLog. After a crash the last entry may be cut:
+// then the cause is CutOff, and the log up to At is whole.
 func ResumeMatch(numbers Numbers, log []byte) (*Match, error) {
-	match := &Match{log: append([]byte(nil), log...)}
+	match := &Match{}
 	match.numbers = C.CoshalitNumbers{
 		version: C.uint32_t(numbers.Version), provers: C.uint32_t(numbers.Provers), fan: C.uint32_t(numbers.Fan),
 		patience: C.uint32_t(numbers.Patience), bound: C.uint64_t(numbers.Bound),
@@ -155,15 +162,18 @@ func ResumeMatch(numbers Numbers, log []byte) (*Match, error) {
 	for at, byte := range numbers.Start {
 		match.numbers.start[at] = C.uint8_t(byte)
 	}
-	if err := match.play(match.log); err != nil {
+	if err := match.play(append([]byte(nil), log...)); err != nil {
 		return nil, err
 	}
 	return match, nil
 }
 
-// Post appends the bytes that a prover sends as its answer to a question, and plays on. The prover is who sent them, and nothing that the
-// sender says. If they are no wire form, as empty ones are, the error is a NoLog: they are no answer and no pass, and the match is as it
-// was.
+// Post appends the bytes that a prover sends as its answer to a question, and plays on. The prover is the one that sent them: never take
+// its number from what was sent. Dispute and round are those that the sender names under its signature, or those of the question that you
+// sent it. Never take those that are open now: a late answer to the question before would become an answer to this one.
+//
+// If the bytes are no wire form, as empty ones are, the error is a NoLog: they are no answer and no pass. It is a Refusal if memory ran
+// out, and then the same post may be tried again. After an error the match is as it was.
 func (match *Match) Post(prover, dispute, round uint32, answer []byte) (Reply, error) {
 	if len(answer) == 0 {
 		return 0, NoLog{At: uint64(len(match.log)), Cause: NoAnswer, Rule: 1}
@@ -171,17 +181,20 @@ func (match *Match) Post(prover, dispute, round uint32, answer []byte) (Reply, e
 	return match.append(prover, dispute, round, answer)
 }
 
-// Pass appends a pass of a prover that is late. One silence is one pass, however long it is.
+// Pass appends a pass of a prover that is late: one for each full period without an answer. How long a period is you choose; the match
+// counts passes, and not time. A prover is out by one pass more than the patience. The error is as of Post.
 func (match *Match) Pass(prover, dispute, round uint32) (Reply, error) {
 	return match.append(prover, dispute, round, nil)
 }
 
-// Questions are the open ones, in the order of their provers; none if the match is over.
+// Questions are the open ones, in the order of their provers; none if the match is over. Each post makes new ones: what is returned may be
+// kept, and isn't to be changed.
 func (match *Match) Questions() []Question {
 	return match.questions
 }
 
-// Verdict is how the match stands, and the number of the prover whose claim is accepted, or 0.
+// Verdict is how the match stands, and the number of the prover whose claim is accepted, or 0. The status and the output that are accepted
+// are those of this prover's claim in the log, and are in the last line of Text.
 func (match *Match) Verdict() (Verdict, uint32) {
 	return match.verdict, uint32(match.found.accepted)
 }
@@ -189,7 +202,7 @@ func (match *Match) Verdict() (Verdict, uint32) {
 // Text is the full text of a match that is over, which anybody can audit. The error is ErrOpen or a Refusal.
 func (match *Match) Text() ([]byte, error) {
 	log, length := bytesOf(match.log)
-	status, text := answerOf(func(room *C.uint8_t, size C.size_t) C.CoshalitAnswer {
+	status, text := answerOf(4*len(match.log)+1024, func(room *C.uint8_t, size C.size_t) C.CoshalitAnswer {
 		return C.coshalit_match_text(&match.numbers, log, length, room, size)
 	})
 	if err := isOver(status); err != nil {
@@ -266,11 +279,10 @@ func (match *Match) append(prover, dispute, round uint32, answer []byte) (Reply,
 	if err := match.play(log); err != nil {
 		return 0, err
 	}
-	match.log = log
 	return Reply(match.found.reply), nil
 }
 
-// Finds what the match has come to after this log. After an error the match is as it was.
+// Finds what the match has come to after this log, and takes the log. After an error the match is as it was.
 func (match *Match) play(log []byte) error {
 	var found C.CoshalitMatch
 	var asked [mostProvers]C.CoshalitQuestion
@@ -283,14 +295,20 @@ func (match *Match) play(log []byte) error {
 	if err != nil {
 		return err
 	}
-	match.questions = make([]Question, found.asked)
-	for at := range match.questions {
+	if len(log) > 0 && (found.reply < C.COSHALIT_TAKEN || found.reply > C.COSHALIT_STALE) {
+		return Unknown{"reply", uint32(found.reply)}
+	}
+	questions := make([]Question, found.asked)
+	for at := range questions {
 		one := asked[at]
-		match.questions[at] = Question{
+		questions[at] = Question{
 			Prover: uint32(one.prover), Dispute: uint32(one.dispute), Round: uint32(one.round), Kind: Kind(one.kind),
 			Parts: uint32(one.parts), Passes: uint32(one.passes), Low: uint64(one.low), High: uint64(one.high),
 		}
+		if !questions[at].Kind.isKnown() {
+			return Unknown{"kind", uint32(one.kind)}
+		}
 	}
-	match.verdict, match.found = verdict, found
+	match.log, match.verdict, match.found, match.questions = log, verdict, found, questions
 	return nil
 }

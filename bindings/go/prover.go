@@ -5,8 +5,12 @@ import "C"
 
 import "unsafe"
 
-// Prover has the true answers of the run of a case. Whoever posts what it gives, in time, and is alone to post in its name, is never put
-// out.
+// Prover has the true answers of the run of a case. A prover that posts what it gives, in time, is never out if nobody else posts in its
+// name.
+//
+// Nothing is kept between two calls. Each makes a tree of all pages of the image, and all but StartRoot run the program from step 0 on.
+// With the fan 2 that is up to 34 answers for the claim and one dispute. So for a long run fetch many roots at once by RootsAt, and send those
+// that are asked for: the wire form of a root is the byte 2 and the root's 32 bytes.
 type Prover struct {
 	json []byte
 }
@@ -19,7 +23,7 @@ func NewProver(json []byte) Prover {
 // StartRoot is the root of the state in which the run starts: the Start of a match of the case. The error is a Refusal.
 func (prover Prover) StartRoot() (Root, error) {
 	place, length := bytesOf(prover.json)
-	text, err := textOf(func(room *C.uint8_t, size C.size_t) C.CoshalitAnswer {
+	text, err := textOf(ofARefusal, func(room *C.uint8_t, size C.size_t) C.CoshalitAnswer {
 		return C.coshalit_start_root(place, length, room, size)
 	})
 	var root Root
@@ -27,15 +31,15 @@ func (prover Prover) StartRoot() (Root, error) {
 	return root, err
 }
 
-// RootsAt gives the roots of the states after these many steps each, in the order of the steps. All are reached by one run. The error is a
-// Refusal: a step above the case's bound is NotAsked.
+// RootsAt gives the roots of the states after these many steps each, in the order in which the steps are given. All are reached by one run.
+// The error is a Refusal: a step above the case's bound is NotAsked.
 func (prover Prover) RootsAt(steps []uint64) ([]Root, error) {
 	place, length := bytesOf(prover.json)
 	var first *C.uint64_t
 	if len(steps) > 0 {
 		first = (*C.uint64_t)(unsafe.Pointer(&steps[0]))
 	}
-	text, err := textOf(func(room *C.uint8_t, size C.size_t) C.CoshalitAnswer {
+	text, err := textOf(RootBytes*len(steps)+ofARefusal, func(room *C.uint8_t, size C.size_t) C.CoshalitAnswer {
 		return C.coshalit_roots_at(place, length, first, C.size_t(len(steps)), room, size)
 	})
 	if err != nil {
@@ -48,11 +52,12 @@ func (prover Prover) RootsAt(steps []uint64) ([]Root, error) {
 	return roots, nil
 }
 
-// Answer gives the true answer to a question of a match of the case, as a wire form. It takes as long as the run up to the step that is
-// asked. The error is a Refusal: what no match of the case asks is NotAsked.
+// Answer gives the true answer to a question of a match of the case, as a wire form. It makes a tree of the image, and runs the program up
+// to the step that is asked. It does so twice for a claim whose output has more than 3,974 bytes. The error is a Refusal: what no match of the
+// case asks is NotAsked.
 func (prover Prover) Answer(asked Question) ([]byte, error) {
 	place, length := bytesOf(prover.json)
-	return textOf(func(room *C.uint8_t, size C.size_t) C.CoshalitAnswer {
+	return textOf(firstRoom, func(room *C.uint8_t, size C.size_t) C.CoshalitAnswer {
 		return C.coshalit_answer(
 			place, length, C.uint32_t(asked.Kind), C.uint64_t(asked.Low), C.uint64_t(asked.High), C.uint32_t(asked.Parts), room, size)
 	})

@@ -7,8 +7,11 @@
 
 The library is the file that COSHALIT_LIBRARY names, else libcoshalit_c.so beside this module, else the system's; `load` takes another one.
 What is proved ends at the library. This module passes bytes, and gives refusals as exceptions; include/coshalit.h says what each call
-promises. A call can't be stopped: bound the cases and the texts that you give it. What is taken as bytes may also be a bytearray or a
-memoryview.
+promises. What is taken as bytes may also be a bytearray or a memoryview.
+
+A call can't be stopped, and its memory can't be bounded from here, as the shared library has heap.c inside. So bound the cases and the
+texts that you give it. Call it in a process of its own, in which `resource.setrlimit(resource.RLIMIT_AS, ..)` limits the memory, and end that
+process if a call takes too long. `run` and `Prover.answer` make their call a second time if the answer has more than 4,096 bytes.
 """
 import ctypes
 import dataclasses
@@ -20,8 +23,10 @@ import struct
 ROOT_BYTES = 32
 # A match has at most so many provers, and so many open questions.
 MOST_PROVERS = 16
-# How many bytes a text may have before a call is made a second time for it.
+# How many bytes a text may have, where no length is known beforehand, before a call is made a second time for it.
 FIRST_ROOM = 4096
+# How many bytes include/coshalit.h adds to most rooms: a refusal has no more.
+OF_A_REFUSAL = 64
 
 
 class Status(enum.IntEnum):
@@ -51,8 +56,9 @@ class Ruling(enum.IntEnum):
 
 
 class Reply(enum.IntEnum):
-    """What came of a post: a taken one is an answer of the right kind, or a pass within the patience; a faulty or a spent one puts its
-    prover out; a stale one names no open question of its prover, and changes nothing."""
+    """What came of a post. A taken one is an answer of the right kind, or a pass within the patience. By a faulty or a spent one its prover
+    is out: by a claim at once, in a dispute as soon as the other side of the round is settled. A stale one names no open question of its
+    prover, and changes nothing."""
 
     TAKEN = 1
     FAULTY = 2
@@ -109,11 +115,19 @@ class Refused(Error):
 
 class NoLog(Error):
     """Bytes are no log from the byte `at` on. `cause`: 1 they end within an entry, 2 no prover has the number, 3 the answer's bytes are no
-    wire form, and then `rule` is the rule of docs/COMMITMENTS.md that they break."""
+    wire form, and then `rule` is the number of the fault in the table of docs/COMMITMENTS.md ('Wire forms')."""
 
     def __init__(self, at, cause, rule):
         super().__init__(f"no log from byte {at} on: cause {cause}" + (f", rule {rule}" if rule else ""))
         self.at, self.cause, self.rule = at, cause, rule
+
+
+class Unknown(Error):
+    """Of a match the library says something that this module doesn't know: it is of a later major version. The match is as it was."""
+
+    def __init__(self, what, number):
+        super().__init__(f"this module knows no {what} {number}")
+        self.what, self.number = what, number
 
 
 # The structures of include/coshalit.h
@@ -192,20 +206,20 @@ def _call(name, *arguments):
     return _calls[name](*arguments)
 
 
-def _answered(name, *arguments):
+def _answered(name, size, *arguments):
     """What a call answers: its status and its whole text. It is called again if its text is longer than the first room."""
-    room = ctypes.create_string_buffer(FIRST_ROOM)
+    room = ctypes.create_string_buffer(size)
     found = _call(name, *arguments, room, len(room))
     if found.length > len(room):
         room = ctypes.create_string_buffer(found.length)
         found = _call(name, *arguments, room, len(room))
-    return found.status, room.raw[: found.length]
+    return found.status, room[: found.length]
 
 
-def _done(name, given, *arguments):
+def _done(name, size, given, *arguments):
     """The text of the answer to what is given, or the refusal that it is."""
     given = _bytes(given)
-    status, text = _answered(name, given, len(given), *arguments)
+    status, text = _answered(name, size, given, len(given), *arguments)
     if status != Status.DONE:
         raise Refused(status, text.decode("ascii", "replace"))
     return text
@@ -239,19 +253,23 @@ def claim_root(wire):
 def audit(text):
     """Audits a full text, as `judge --full` or `Match.text` gives it: the line `confirmed VERDICT`. Otherwise it is Refused.
 
-    It is confirmed that the text is one of a legal match with this verdict, and no more: compare its first line with the root of your
-    case's start and the case's numbers, and refuse another digest than sha256."""
-    return _done("audit", text).decode()
+    It is confirmed that the text is one of a legal match with this verdict, and no more. So compare its first line: the root with that of
+    your case's start, the version and the bound with the case's, and provers, patience and fan with those that you agreed on. Refuse
+    another digest than sha256."""
+    text = _bytes(text)
+    return _done("audit", len(text) + OF_A_REFUSAL, text).decode()
 
 
 def run(case):
-    """Runs the program of a case, a JSON text as bytes, up to the case's bound: the line `answer STATUS output BYTES`, or Refused."""
-    return _done("run", case).decode()
+    """Runs the program of a case, a JSON text as bytes, up to the case's bound: the line `answer STATUS output BYTES`, or Refused. If the
+    line has more than 4,096 bytes, the program is run a second time."""
+    return _done("run", FIRST_ROOM, case).decode()
 
 
 def listing(case):
     """Lists the image of a case, a JSON text as bytes, as assembly text: a line for each word, or Refused."""
-    return _done("list", case).decode()
+    case = _bytes(case)
+    return _done("list", 3 * len(case) + OF_A_REFUSAL, case).decode()
 
 
 @dataclasses.dataclass(frozen=True)
@@ -293,11 +311,13 @@ class Match:
     """A match: its numbers, its log, and what it has come to.
 
     The log is what one stores, orders, signs and compares: who has the same numbers and the same log has the same match. It grows by `post`
-    and `pass_` only. WHOEVER MAY CALL THESE WITH A PROVER'S NUMBER CAN LOSE THAT PROVER'S MATCH: authenticate senders."""
+    and `pass_` only. WHOEVER MAY CALL THESE WITH A PROVER'S NUMBER CAN LOSE THAT PROVER'S MATCH: authenticate senders. The match is played
+    anew at each call: docs/OPEN_MATCH.md says what that costs, and what a host has to do."""
 
     def __init__(self, numbers, log=b""):
         """A match of these Numbers that nobody has posted in, or the one after a log that was stored. Refused if a number is beyond its
-        limit, and NoLog if the bytes are no log."""
+        limit, and NoLog if the bytes are no log. After a crash the last entry may be cut: then the cause is 1, and the log up to `at` is
+        whole."""
         words = [_number(value, _WORD) for value in (numbers.version, numbers.provers, numbers.fan, numbers.patience)]
         if len(numbers.start) != ROOT_BYTES:
             raise ValueError(f"a root has {ROOT_BYTES} bytes")
@@ -320,24 +340,30 @@ class Match:
 
     @property
     def accepted(self):
-        """The number of the prover whose claim is accepted, or 0."""
+        """The number of the prover whose claim is accepted, or 0. The status and the output that are accepted are those of this prover's
+        claim in the log, and are in the last line of the text."""
         return self._found.accepted
 
     def post(self, prover, dispute, round_, answer):
-        """Appends the bytes that a prover sends as its answer to a question, and plays on: the Reply. The prover is who sent them, and
-        nothing that the sender says. NoLog if they are no wire form, as empty ones are: they are no answer and no pass, and the match is as
-        it was."""
+        """Appends the bytes that a prover sends as its answer to a question, and plays on: the Reply. The prover is the one that sent them:
+        never take its number from what was sent. Dispute and round are those that the sender names under its signature, or those of the
+        question that you sent it. Never take those that are open now: a late answer to the question before would become an answer to this
+        one.
+
+        NoLog if the bytes are no wire form, as empty ones are: they are no answer and no pass. Refused if memory ran out, and then the same
+        post may be tried again. After an error the match is as it was."""
         if not answer:
             raise NoLog(len(self._log), 3, 1)
         return self._append(prover, dispute, round_, answer)
 
     def pass_(self, prover, dispute, round_):
-        """Appends a pass of a prover that is late: the Reply. One silence is one pass, however long it is."""
+        """Appends a pass of a prover that is late: the Reply. Append one for each full period without an answer. How long a period is you
+        choose; the match counts passes, and not time. A prover is out by one pass more than the patience."""
         return self._append(prover, dispute, round_, b"")
 
     def text(self):
         """The full text of a match that is over, as bytes, which anybody can audit; None while a question is open."""
-        status, text = _answered("match_text", ctypes.byref(self._numbers), self._log, len(self._log))
+        status, text = _answered("match_text", 4 * len(self._log) + 1024, ctypes.byref(self._numbers), self._log, len(self._log))
         return text if self._is_over(status) else None
 
     def balances(self, stake):
@@ -367,35 +393,46 @@ class Match:
         return Reply(self._found.reply)
 
     def _play(self, log):
-        """Finds what the match has come to after this log. After a refusal the match is as it was."""
+        """Finds what the match has come to after this log, and takes the log. After a refusal the match is as it was."""
         found, asked = _Match(), (_Question * MOST_PROVERS)()
         status = _call("match", ctypes.byref(self._numbers), log, len(log), ctypes.byref(found), asked, MOST_PROVERS)
         if status == Status.BAD_LOG:
             raise NoLog(found.at, found.cause, found.rule)
         self._is_over(status)
-        self._status, self._found, self._log = status, found, log
-        self._questions = [Question(**{name: getattr(one, name) for name, _ in _Question._fields_}) for one in asked[: found.asked]]
+        if log and found.reply not in list(Reply):
+            raise Unknown("reply", found.reply)
+        questions = [Question(**{name: getattr(one, name) for name, _ in _Question._fields_}) for one in asked[: found.asked]]
+        for question in questions:
+            if question.kind not in list(Kind):
+                raise Unknown("kind", question.kind)
+        self._status, self._found, self._log, self._questions = status, found, log, questions
 
 
 class Prover:
-    """The true answers of the run of a case, a JSON text as bytes. Whoever posts what it gives, in time, and is alone to post in its name,
-    is never put out."""
+    """The true answers of the run of a case, a JSON text as bytes. A prover that posts what it gives, in time, is never out if nobody else
+    posts in its name.
+
+    Nothing is kept between two calls. Each makes a tree of all pages of the image, and all but `start_root` run the program from step 0 on.
+    With the fan 2 that is up to 34 answers for the claim and one dispute. So for a long run fetch many roots at once by `roots_at`, and
+    send those that are asked for: the wire form of a root is the byte 2 and the root's 32 bytes."""
 
     def __init__(self, case):
         self.case = _bytes(case)
 
     def start_root(self):
         """The root of the state in which the run starts, the `start` of a match of the case: 32 bytes, or Refused."""
-        return _done("start_root", self.case)
+        return _done("start_root", OF_A_REFUSAL, self.case)
 
     def roots_at(self, steps):
-        """The roots of the states after these many steps each, in their order; all are reached by one run. Refused if a step is above the
-        bound."""
-        text = _done("roots_at", self.case, (_WIDE * len(steps))(*map(_number, steps)), len(steps))
+        """The roots of the states after these many steps each, in the order in which the steps are given; all are reached by one run.
+        Refused if a step is above the bound."""
+        room = ROOT_BYTES * len(steps) + OF_A_REFUSAL
+        text = _done("roots_at", room, self.case, (_WIDE * len(steps))(*map(_number, steps)), len(steps))
         return [text[at : at + ROOT_BYTES] for at in range(0, len(text), ROOT_BYTES)]
 
     def answer(self, question):
-        """The true answer to a Question of a match of the case, as a wire form; Refused if no match of the case asks it. It takes as long
-        as the run up to the step that is asked."""
+        """The true answer to a Question of a match of the case, as a wire form; Refused if no match of the case asks it. It makes a tree of
+        the image, and runs the program up to the step that is asked. It does so twice for a claim whose output has more than 3,974
+        bytes."""
         kind, parts = _number(question.kind, _WORD), _number(question.parts, _WORD)
-        return _done("answer", self.case, kind, _number(question.low), _number(question.high), parts)
+        return _done("answer", FIRST_ROOM, self.case, kind, _number(question.low), _number(question.high), parts)

@@ -159,6 +159,27 @@ class Matches(unittest.TestCase):
             Match(numbers(2), match.log[:-1])
         self.assertEqual(found.exception.cause, 1)
 
+    def test_what_the_module_does_not_know_is_an_error_and_the_match_is_as_it_was(self):
+        """A library that says after the next post what no version with this major number says."""
+        for field, what in ("reply", "reply"), ("kind", "kind"):
+            match = Match(numbers(2))
+            before = match.log, match.questions, match.verdict
+            own = coshalit_c._calls["match"]
+
+            def changed(numbers, log, length, found, asked, room):
+                status = own(numbers, log, length, found, asked, room)
+                setattr(asked[0] if field == "kind" else found._obj, field, 77)
+                return status
+
+            coshalit_c._calls["match"] = changed
+            try:
+                with self.assertRaises(coshalit_c.Unknown) as raised:
+                    match.pass_(1, 1, 1)
+            finally:
+                coshalit_c._calls["match"] = own
+            self.assertEqual((raised.exception.what, raised.exception.number), (what, 77))
+            self.assertEqual((match.log, match.questions, match.verdict), before)
+
     def test_numbers_beyond_their_limits_are_refused(self):
         for wrong in numbers(0), numbers(17), numbers(2, 101), numbers(2, version=4), numbers(2, fan=1):
             with self.assertRaises(coshalit_c.Refused) as found:

@@ -12,10 +12,13 @@ use std::time::{Duration, Instant};
 
 const PATIENCE: u32 = 1;
 const BOUND: u64 = 8;
-/// A silence of this length is a pass.
+/// For each period of this length without an answer a prover passes once.
 const PERIOD: Duration = Duration::from_millis(500);
 /// How long a prover is waited for in the whole match.
 const BUDGET: Duration = Duration::from_millis(1500);
+/// An honest answer has at most max(2,948, 122 + n) bytes, where n is the length of the true output: here at most a byte a step. A longer
+/// one is none. The agreement on n is made before the match.
+const MOST_ANSWER: usize = 2948;
 
 /// The case of a program that puts out one byte and exits. The provers' scripts count for nothing here.
 fn case(immediate: &str) -> String {
@@ -58,8 +61,9 @@ impl Party {
         Party { questions, answers, sent: None, budget: BUDGET }
     }
 
-    /// The answer to a question, or nothing after a silence. While it is waited for, the budget runs down, whatever comes then. Once that
-    /// is used up, nothing more is received: else answers that are none could hold up a match for ever.
+    /// The answer to a question, or nothing after a period without one. A channel keeps the order and repeats nothing, each question is sent
+    /// once, and one answer is taken for it. While it is waited for, the budget runs down, whatever comes then. Once that is used up,
+    /// nothing more is received: else answers that are none could hold up a match for ever.
     fn answer(&mut self, question: Question) -> Option<Vec<u8>> {
         if self.budget.is_zero() {
             return None;
@@ -105,8 +109,19 @@ fn main() -> Result<(), Box<dyn Error>> {
         // The prover's number is that of the channel, and the question is the one that was sent there: nothing that a prover sends.
         let Question { prover, number, asked, .. } = question;
         let answer = parties[prover as usize - 1].answer(question);
+        if answer.as_ref().is_some_and(|bytes| bytes.len() > MOST_ANSWER) {
+            println!("p{prover} sends what is no answer: dropped");
+            continue;
+        }
         let post = answer.as_deref().map_or(Post::Pass, Post::Answer);
-        match game.post(prover, number, post) {
+        let posted = loop {
+            match game.post(prover, number, post) {
+                // The match is as it was: the same post again.
+                Err(MatchError::OutOfMemory) => thread::sleep(PERIOD / 10),
+                posted => break posted,
+            }
+        };
+        match posted {
             Ok(reply) => println!(
                 "dispute {} round {} p{prover} {} {}: {}",
                 number.dispute,

@@ -6,30 +6,35 @@ use alloc::vec;
 use alloc::vec::Vec;
 use coshalit_sys::{COSHALIT_DONE, CoshalitAnswer, coshalit_audit, coshalit_list, coshalit_run};
 
-/// How many bytes a text may have before a call is made a second time for it.
-const FIRST_ROOM: usize = 4096;
+/// How many bytes a text may have, where no length is known beforehand, before a call is made a second time for it.
+pub(crate) const FIRST_ROOM: usize = 4096;
+
+/// How many bytes `include/coshalit.h` adds to most rooms: a refusal has no more.
+pub(crate) const OF_A_REFUSAL: usize = 64;
 
 type Command = unsafe extern "C" fn(*const u8, usize, *mut u8, usize) -> CoshalitAnswer;
 
 /// Audits a full text, as `judge --full` or [`Match::text`](crate::Match::text) gives it: the line `confirmed VERDICT`.
 ///
-/// It is confirmed that the text is one of a legal match with this verdict, and no more: compare its first line with the root of your
-/// case's start and the case's numbers, and refuse another digest than `sha256`.
+/// It is confirmed that the text is one of a legal match with this verdict, and no more. So compare its first line: the root with that of
+/// your case's start, the version and the bound with the case's, and provers, patience and fan with those that you agreed on. Refuse
+/// another digest than `sha256`.
 ///
 /// # Errors
 ///
 /// [`Error::Refused`] with the line `refused LINE CAUSE` or `fault text R ..`, [`Error::TooLong`], [`Error::OutOfMemory`].
 pub fn audit(text: &[u8]) -> Result<String, Error> {
-    command(coshalit_audit, text)
+    command(coshalit_audit, text, text.len() + OF_A_REFUSAL)
 }
 
-/// Runs the program of a case, a JSON text, up to the case's bound: the line `answer STATUS output BYTES`.
+/// Runs the program of a case, a JSON text, up to the case's bound: the line `answer STATUS output BYTES`. If the line has more than 4,096
+/// bytes, the program is run a second time.
 ///
 /// # Errors
 ///
 /// [`Error::BadCase`], [`Error::BadImage`], [`Error::TooLong`], [`Error::OutOfMemory`].
 pub fn run(case: &[u8]) -> Result<String, Error> {
-    command(coshalit_run, case)
+    command(coshalit_run, case, FIRST_ROOM)
 }
 
 /// Lists the image of a case, a JSON text, as assembly text: a line for each word.
@@ -38,23 +43,24 @@ pub fn run(case: &[u8]) -> Result<String, Error> {
 ///
 /// As [`run`]; a case whose image has no listing is an [`Error::BadCase`].
 pub fn list(case: &[u8]) -> Result<String, Error> {
-    command(coshalit_list, case)
+    command(coshalit_list, case, 3 * case.len() + OF_A_REFUSAL)
 }
 
-fn command(call: Command, bytes: &[u8]) -> Result<String, Error> {
+fn command(call: Command, bytes: &[u8], room: usize) -> Result<String, Error> {
     // SAFETY: the pointers are those of slices of these lengths, and `room` is no part of `bytes`.
-    let (status, text) = text_of(|room| unsafe { call(bytes.as_ptr(), bytes.len(), room.as_mut_ptr(), room.len()) });
+    let (status, text) = text_of(room, |room| unsafe { call(bytes.as_ptr(), bytes.len(), room.as_mut_ptr(), room.len()) });
     done(status, text).map(in_letters)
 }
 
 /// What a call answers: its status and its whole text. It is called again if its text is longer than the first room.
-pub(crate) fn text_of(call: impl Fn(&mut [u8]) -> CoshalitAnswer) -> (u32, Vec<u8>) {
-    let mut room = vec![0; FIRST_ROOM];
+pub(crate) fn text_of(size: usize, call: impl Fn(&mut [u8]) -> CoshalitAnswer) -> (u32, Vec<u8>) {
+    let mut room = vec![0; size];
     loop {
         let found = call(&mut room);
         let is_whole = found.length <= room.len();
         room.resize(found.length, 0);
         if is_whole {
+            room.shrink_to_fit();
             return (found.status, room);
         }
     }

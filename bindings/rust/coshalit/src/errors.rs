@@ -16,6 +16,8 @@ pub enum StepRefused {
     WrongShape,
     /// The bytes are the wire form of no proof of a step.
     NoProof,
+    /// A ruling of a later major version of the library.
+    Other(u32),
 }
 
 /// Why a claim has no root.
@@ -26,6 +28,8 @@ pub enum ClaimRefused {
     /// The bytes are the wire form of no claim.
     NoClaim,
     OutOfMemory,
+    /// A status of a later major version of the library.
+    Other(u32),
 }
 
 /// Why a command or a prover gives no answer. The texts are those that the program writes, with the newline at their end.
@@ -92,7 +96,7 @@ pub enum LogCause {
     CutOff,
     /// No prover has the number.
     NoProver,
-    /// The answer's bytes are no wire form: they break this rule of docs/COMMITMENTS.md, 1 to 5.
+    /// The answer's bytes are no wire form: `rule` is the number of the fault in the table of docs/COMMITMENTS.md ('Wire forms').
     NoAnswer { rule: u32 },
     /// A cause of a later version of the library.
     Other(u32),
@@ -113,25 +117,31 @@ pub enum MatchError {
     Other {
         status: u32,
     },
+    /// A reply that this crate doesn't know: the library is of a later major version.
+    UnknownReply(u32),
+    /// A kind of question that this crate doesn't know: the library is of a later major version.
+    UnknownKind(u32),
 }
 
 impl Display for StepRefused {
     fn fmt(&self, out: &mut Formatter<'_>) -> fmt::Result {
-        out.write_str(match self {
-            StepRefused::NotOpen => "the proof doesn't open the root",
-            StepRefused::WrongShape => "the proof hasn't the shape of its step",
-            StepRefused::NoProof => "the bytes are no proof of a step",
-        })
+        match self {
+            StepRefused::NotOpen => out.write_str("the proof doesn't open the root"),
+            StepRefused::WrongShape => out.write_str("the proof hasn't the shape of its step"),
+            StepRefused::NoProof => out.write_str("the bytes are no proof of a step"),
+            StepRefused::Other(ruling) => write!(out, "ruling {ruling}"),
+        }
     }
 }
 
 impl Display for ClaimRefused {
     fn fmt(&self, out: &mut Formatter<'_>) -> fmt::Result {
-        out.write_str(match self {
-            ClaimRefused::Unsound => "the claim's output isn't that of its state",
-            ClaimRefused::NoClaim => "the bytes are no claim",
-            ClaimRefused::OutOfMemory => "out of memory",
-        })
+        match self {
+            ClaimRefused::Unsound => out.write_str("the claim's output isn't that of its state"),
+            ClaimRefused::NoClaim => out.write_str("the bytes are no claim"),
+            ClaimRefused::OutOfMemory => out.write_str("out of memory"),
+            ClaimRefused::Other(status) => write!(out, "status {status}"),
+        }
     }
 }
 
@@ -150,7 +160,7 @@ impl Display for LogCause {
         match self {
             LogCause::CutOff => out.write_str("the log ends within an entry"),
             LogCause::NoProver => out.write_str("no prover has the number"),
-            LogCause::NoAnswer { rule } => write!(out, "the answer's bytes are no wire form, by rule {rule}"),
+            LogCause::NoAnswer { rule } => write!(out, "the answer's bytes are no wire form, fault {rule}"),
             LogCause::Other(cause) => write!(out, "cause {cause}"),
         }
     }
@@ -163,6 +173,8 @@ impl Display for MatchError {
             MatchError::BadLog { at, cause } => write!(out, "no log from byte {at} on: {cause}"),
             MatchError::OutOfMemory => out.write_str("out of memory"),
             MatchError::Other { status } => write!(out, "status {status}"),
+            MatchError::UnknownReply(reply) => write!(out, "this crate knows no reply {reply}"),
+            MatchError::UnknownKind(kind) => write!(out, "this crate knows no kind {kind}"),
         }
     }
 }

@@ -7,7 +7,11 @@
 //! - [`claim_root`]: the root by which claims are compared.
 //!
 //! What is proved ends at the library. This crate passes slices, and gives errors as types; `include/coshalit.h` says what each call
-//! promises. A call can't be stopped: bound the cases and the texts that you give it.
+//! promises.
+//!
+//! A call can't be stopped. So bound the cases and the texts that you give it, or call it in a process of its own, and end that. Memory is
+//! bounded by a limit on that process, or by three functions of your own in place of the feature `malloc`. A call for which no room is known
+//! beforehand is made a second time if its answer has more than 4,096 bytes: [`run`] and [`Prover::answer`].
 //!
 //! ```
 //! use coshalit::{Match, Numbers, Post, Prover, Verdict, audit};

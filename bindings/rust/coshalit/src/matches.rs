@@ -57,8 +57,6 @@ pub enum Asked {
     Proof { step: u64 },
     /// The roots at the cuts of an interval of steps into so many parts.
     Roots { low: u64, high: u64, parts: u32 },
-    /// A question of a later version of the library.
-    Other { kind: u32, low: u64, high: u64, parts: u32 },
 }
 
 /// An open question of a match.
@@ -77,7 +75,8 @@ pub struct Question {
 pub enum Post<'a> {
     /// The bytes of a wire form, as they came. Empty ones are no answer, and no pass.
     Answer(&'a [u8]),
-    /// The prover is late. One silence is one pass, however long it is.
+    /// The prover is late: post a pass for each full period without an answer. How long a period is you choose; the match counts passes, and
+    /// not time. A prover is out by one pass more than the patience.
     Pass,
 }
 
@@ -86,9 +85,10 @@ pub enum Post<'a> {
 pub enum Reply {
     /// It is an answer of the right kind, or a pass within the patience.
     Taken,
-    /// It is an answer of another kind, or an unsound claim: its prover is out.
+    /// It is an answer of another kind, or an unsound claim. Its prover is out: by a claim at once, in a dispute as soon as the other side of
+    /// the round is settled.
     Faulty,
-    /// It is a pass beyond the patience: its prover is out.
+    /// It is a pass beyond the patience. Its prover is out, as by [`Faulty`](Reply::Faulty).
     Spent,
     /// It names no open question of its prover, and changes nothing.
     Stale,
@@ -97,7 +97,7 @@ pub enum Reply {
 /// How a match ended.
 #[derive(Clone, Copy, Debug, PartialEq, Eq)]
 pub enum Verdict {
-    /// The claim of this prover is accepted.
+    /// The claim of this prover is accepted: the status and the output of that claim in the log. They are in the last line of the text too.
     Accepted { prover: u32 },
     /// Every prover is out.
     NoneLeft,
@@ -117,7 +117,8 @@ pub struct Settlement {
 /// A match: its numbers, its log, and what it has come to.
 ///
 /// The log is what one stores, orders, signs and compares: who has the same numbers and the same log has the same match. It grows by
-/// [`post`](Match::post) only. **Who may call that with a prover's number can lose that prover's match**: authenticate senders.
+/// [`post`](Match::post) only. **Who may call that with a prover's number can lose that prover's match**: authenticate senders. The match is
+/// played anew at each call: `docs/OPEN_MATCH.md` says what that costs, and what a host has to do.
 #[derive(Clone, Debug)]
 pub struct Match {
     numbers: CoshalitNumbers,
@@ -137,7 +138,8 @@ impl Match {
         Match::resume(numbers, Vec::new())
     }
 
-    /// The match after a log that was stored.
+    /// The match after a log that was stored. After a crash the last entry may be cut: then the cause is [`LogCause::CutOff`], and the log up
+    /// to `at` is whole.
     ///
     /// # Errors
     ///
@@ -150,12 +152,14 @@ impl Match {
         Ok(begun)
     }
 
-    /// Appends what a prover posts to a question, and plays on. The prover is who sent it, and nothing that the sender says.
+    /// Appends what a prover posts to a question, and plays on. The prover is the one that sent it: never take its number from what was sent.
+    /// Dispute and round are those that the sender names under its signature, or those of the question that you sent it. Never take those
+    /// that are open now: a late answer to the question before would become an answer to this one.
     ///
     /// # Errors
     ///
     /// [`MatchError::BadLog`] if no prover has the number, or if the bytes are no wire form: such bytes are no answer, and no pass.
-    /// [`MatchError::OutOfMemory`]. The match is as it was then.
+    /// [`MatchError::OutOfMemory`]: the same post may be tried again. After any error the match is as it was.
     pub fn post(&mut self, prover: u32, number: Number, post: Post<'_>) -> Result<Reply, MatchError> {
         let before = self.log.len();
         let answer = match post {
@@ -174,12 +178,7 @@ impl Match {
             self.log.truncate(before);
             return Err(why);
         }
-        Ok(match self.found.reply {
-            1 => Reply::Taken,
-            2 => Reply::Faulty,
-            3 => Reply::Spent,
-            _ => Reply::Stale,
-        })
+        reply_of(self.found.reply)
     }
 
     /// The open questions, in the order of their provers; none if the match is over.
@@ -204,8 +203,9 @@ impl Match {
     /// [`MatchError::OutOfMemory`].
     pub fn text(&self) -> Result<Option<Vec<u8>>, MatchError> {
         // SAFETY: the pointers are those of a struct and of slices of these lengths, and `room` is no part of the others.
-        let (status, text) =
-            text_of(|room| unsafe { coshalit_match_text(&self.numbers, self.log.as_ptr(), self.log.len(), room.as_mut_ptr(), room.len()) });
+        let (status, text) = text_of(4 * self.log.len() + 1024, |room| unsafe {
+            coshalit_match_text(&self.numbers, self.log.as_ptr(), self.log.len(), room.as_mut_ptr(), room.len())
+        });
         Ok(self.is_over(status)?.then_some(text))
     }
 
@@ -261,13 +261,27 @@ impl Match {
         if !matches!(status, COSHALIT_ACCEPTED | COSHALIT_NONE_LEFT | COSHALIT_COLLISION | COSHALIT_STILL_OPEN) {
             return Err(error_of(status, &found));
         }
-        self.questions = asked[..found.asked as usize].iter().map(Question::of).collect();
+        if !self.log.is_empty() {
+            reply_of(found.reply)?;
+        }
+        self.questions = asked[..found.asked as usize].iter().map(Question::of).collect::<Result<_, _>>()?;
         (self.status, self.found) = (status, found);
         Ok(())
     }
 }
 
 type Settle = unsafe extern "C" fn(*const CoshalitNumbers, u64, *const u8, usize, *mut u64, usize, *mut u64) -> u32;
+
+/// The reply with this number.
+fn reply_of(reply: u32) -> Result<Reply, MatchError> {
+    match reply {
+        1 => Ok(Reply::Taken),
+        2 => Ok(Reply::Faulty),
+        3 => Ok(Reply::Spent),
+        4 => Ok(Reply::Stale),
+        other => Err(MatchError::UnknownReply(other)),
+    }
+}
 
 fn error_of(status: u32, found: &CoshalitMatch) -> MatchError {
     let cause = match found.cause {
@@ -286,16 +300,16 @@ fn error_of(status: u32, found: &CoshalitMatch) -> MatchError {
 
 impl Question {
     /// A question as the library writes it.
-    fn of(found: &CoshalitQuestion) -> Question {
+    fn of(found: &CoshalitQuestion) -> Result<Question, MatchError> {
         let &CoshalitQuestion { prover, dispute, round, kind, parts, passes, low, high } = found;
         let asked = match kind {
             CLAIM => Asked::Claim,
             ROOT => Asked::Root { step: low },
             PROOF => Asked::Proof { step: low },
             ROOTS => Asked::Roots { low, high, parts },
-            _ => Asked::Other { kind, low, high, parts },
+            _ => return Err(MatchError::UnknownKind(kind)),
         };
-        Question { prover, number: Number { dispute, round }, passes, asked }
+        Ok(Question { prover, number: Number { dispute, round }, passes, asked })
     }
 
     /// The question as the library takes it.
@@ -306,8 +320,18 @@ impl Question {
             Asked::Root { step } => (ROOT, step, 0, 0),
             Asked::Proof { step } => (PROOF, step, 0, 0),
             Asked::Roots { low, high, parts } => (ROOTS, low, high, parts),
-            Asked::Other { kind, low, high, parts } => (kind, low, high, parts),
         };
         CoshalitQuestion { prover, dispute, round, kind, parts, passes, low, high }
+    }
+}
+
+#[cfg(test)]
+mod tests {
+    use super::*;
+
+    #[test]
+    fn what_the_crate_does_not_know_is_an_error() {
+        assert_eq!(reply_of(5), Err(MatchError::UnknownReply(5)));
+        assert_eq!(Question::of(&CoshalitQuestion { kind: 4, ..Default::default() }), Err(MatchError::UnknownKind(4)));
     }
 }

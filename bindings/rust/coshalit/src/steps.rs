@@ -3,8 +3,14 @@
 use crate::errors::{ClaimRefused, StepRefused};
 use crate::{ROOT_BYTES, Root};
 use coshalit_sys::{
-    COSHALIT_LEADS, COSHALIT_NO_PROOF, COSHALIT_NOT_OPEN, COSHALIT_OUT_OF_MEMORY, coshalit_check_step, coshalit_claim_root,
+    COSHALIT_LEADS, COSHALIT_NO_PROOF, COSHALIT_NOT_OPEN, COSHALIT_OUT_OF_MEMORY, COSHALIT_WRONG_SHAPE, coshalit_check_step,
+    coshalit_claim_root,
 };
+
+/// What `coshalit_claim_root` returns.
+const SOUND: u32 = 0;
+const UNSOUND: u32 = 1;
+const NO_CLAIM: u32 = 3;
 
 /// The root to which the proof of one step leads, from a root on which both sides agree, by SHA-256. `wire` is the proof as it is sent, and
 /// `version` that of the commitments, 1, 2 or 3. It takes no memory.
@@ -20,8 +26,9 @@ pub fn check_step(version: u32, root: &Root, wire: &[u8]) -> Result<Root, StepRe
     match ruling {
         COSHALIT_LEADS => Ok(next),
         COSHALIT_NOT_OPEN => Err(StepRefused::NotOpen),
+        COSHALIT_WRONG_SHAPE => Err(StepRefused::WrongShape),
         COSHALIT_NO_PROOF => Err(StepRefused::NoProof),
-        _ => Err(StepRefused::WrongShape),
+        ruling => Err(StepRefused::Other(ruling)),
     }
 }
 
@@ -34,9 +41,10 @@ pub fn claim_root(wire: &[u8]) -> Result<Root, ClaimRefused> {
     let mut root = [0; ROOT_BYTES];
     // SAFETY: as in `check_step`.
     match unsafe { coshalit_claim_root(wire.as_ptr(), wire.len(), root.as_mut_ptr(), root.len()) } {
-        0 => Ok(root),
+        SOUND => Ok(root),
+        UNSOUND => Err(ClaimRefused::Unsound),
+        NO_CLAIM => Err(ClaimRefused::NoClaim),
         COSHALIT_OUT_OF_MEMORY => Err(ClaimRefused::OutOfMemory),
-        COSHALIT_NO_PROOF => Err(ClaimRefused::NoClaim),
-        _ => Err(ClaimRefused::Unsound),
+        status => Err(ClaimRefused::Other(status)),
     }
 }
