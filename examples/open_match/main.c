@@ -5,7 +5,11 @@
  * The referee owns a log of posts and asks the library what the match has come to after it. It knows nothing of the program that is run but
  * its bound and the root of its start. The provers know the case. Prover 1 is honest: it sends what `coshalit_answer` gives. Prover 2 has
  * run another program. Prover 3 has run a third one; it sends its claim late, and then falls silent for good.
+ *
+ * It is short, and so it waits for one party at a time. docs/OPEN_MATCH.md says what a host has to do.
  */
+#define _DEFAULT_SOURCE 1
+
 #include "coshalit.h"
 
 #include <poll.h>
@@ -17,7 +21,15 @@
 #include <time.h>
 #include <unistd.h>
 
-enum { PROVERS = 3, PATIENCE = 1, BOUND = 8, PERIOD = 500, BUDGET = 1500, MOST_ANSWER = 1 << 16 };
+enum { PROVERS = 3, PATIENCE = 1, BOUND = 8, PERIOD = 500, BUDGET = 1500 };
+
+/* An honest answer has at most max(2,948, 122 + n) bytes, where n is the length of the true output. A program puts out at most one byte a
+ * step, so n is at most 8 here. A longer answer is none: the agreement on n is made before the match. */
+enum { MOST_ANSWER = 2948 };
+
+/* At most so many posts of a match have an effect (docs/GAME.md, 'Disputes'): (P + 1) (m + 2 (m - 1) (K + 1)), for m = 3 provers, the
+ * patience P = 1 and K = 3 rounds. This host appends no others, so the log has a room that always suffices, and so has the text. */
+enum { MOST_POSTS = 38, MOST_LOG = MOST_POSTS * (16 + MOST_ANSWER), MOST_TEXT = 4 * MOST_LOG + 1024 };
 
 /* The case of a program that puts out one byte and exits. The provers' scripts count for nothing here. */
 #define CASE(BYTE_OUT)                                                                                                                       \
@@ -56,8 +68,10 @@ static void prove(int number, int questions, int answers) {
     const char *json = CASES[number - 1];
     CoshalitQuestion asked;
     while (read_all(questions, &asked, sizeof asked)) {
-        CoshalitAnswer answer =
-            coshalit_answer((const uint8_t *)json, strlen(json), asked.kind, asked.low, asked.high, asked.parts, room, sizeof room);
+        CoshalitAnswer answer;
+        while ((answer = coshalit_answer((const uint8_t *)json, strlen(json), asked.kind, asked.low, asked.high, asked.parts, room,
+                                         sizeof room)).status == COSHALIT_OUT_OF_MEMORY)
+            usleep(1000 * PERIOD / 10);
         uint32_t length = (uint32_t)answer.length;
         if (answer.status != COSHALIT_DONE || answer.length > sizeof room) exit(1);
         if (number == 3) usleep(1000 * (PERIOD + PERIOD / 2));
@@ -77,16 +91,17 @@ typedef struct Party {
 
 static Party parties[PROVERS];
 
-/* The log. Its room is enough for this match; a host of others lets it grow. */
-static uint8_t log_bytes[1 << 20];
+/* The log. */
+static uint8_t log_bytes[MOST_LOG];
 static size_t log_length;
 
 static void put_number(uint8_t *place, uint32_t number) {
     for (int at = 0; at < 4; at++) place[at] = (uint8_t)(number >> (8 * at));
 }
 
-/* Appends an entry. The number of the prover is that of the pipe on which the answer came, and the question is the one that was sent there:
- * nothing of what a prover sends gets into these 16 bytes. */
+/* Appends an entry. The referee writes the 16 bytes before the answer itself. The number of the prover is that of the pipe on which the
+ * answer came. The question is the one that was sent there last: a pipe keeps the order and repeats nothing, each question is sent once,
+ * and one answer is taken for it. Over a transport that may repeat an answer or keep it back, let the sender name dispute and round. */
 static void append(uint32_t prover, const CoshalitQuestion *asked, const uint8_t *answer, uint32_t length) {
     if (log_length + 16 + length > sizeof log_bytes) stop("the log is full");
     uint8_t *entry = log_bytes + log_length;
@@ -104,9 +119,9 @@ static long now(void) {
     return 1000L * time.tv_sec + time.tv_nsec / 1000000;
 }
 
-/* What a party sends as the answer to its question: how many bytes, or -1 for a pass. A party that is silent for a period passes, and one
- * that is gone, or sends more than there is room for, passes at once. While it is waited for, its budget for the whole match runs down,
- * whatever it sends then. Once that is used up, nothing more is read of it: else answers that are none could hold up a match for ever. */
+/* What a party sends as the answer to its question: how many bytes, or -1 for a pass. For each period without an answer a party passes
+ * once. One that is gone, or sends more than MOST_ANSWER bytes, passes at once. While it is waited for, its budget for the whole match runs
+ * down, whatever it sends then. Once that is used up, nothing more is read of it. */
 static long answer_of(Party *party, const CoshalitQuestion *asked, uint8_t *room) {
     if (party->budget <= 0) return -1;
     if (!party->is_sent || party->dispute != asked->dispute || party->round != asked->round) {
@@ -137,9 +152,25 @@ static const char *reply_of(uint32_t reply) {
     return reply == 1 ? "taken" : reply == 2 ? "faulty" : reply == 3 ? "spent" : "stale";
 }
 
-/* Memory may run out, and the library writes nothing then. */
 static int is_of_a_match(uint32_t status) {
     return status == COSHALIT_STILL_OPEN || status == COSHALIT_ACCEPTED || status == COSHALIT_NONE_LEFT || status == COSHALIT_COLLISION;
+}
+
+/* Drops what a party sent, which is no answer. It takes at least a millisecond of its budget: else such answers, sent at once one after
+ * another, could hold up a match for ever. */
+static void drop_answer(uint32_t prover) {
+    parties[prover - 1].budget -= 1;
+    printf("p%u sends what is no answer: dropped\n", prover);
+}
+
+/* Appends an entry of a prover that is asked: an answer that isn't empty, or a pass. A host may send all open questions at once, and append
+ * as answers come. */
+static void append_next(const CoshalitQuestion *question) {
+    static uint8_t room[MOST_ANSWER];
+    long length;
+    while ((length = answer_of(&parties[question->prover - 1], question, room)) == 0)
+        drop_answer(question->prover); /* an empty answer would be a pass */
+    append(question->prover, question, room, length > 0 ? (uint32_t)length : 0);
 }
 
 static void begin(int number) {
@@ -162,44 +193,51 @@ static void begin(int number) {
 }
 
 int main(void) {
-    static uint8_t room[MOST_ANSWER], text[1 << 20], report[1 << 12];
+    static uint8_t text[MOST_TEXT], report[1 << 12];
     CoshalitNumbers numbers = {.version = 1, .provers = PROVERS, .fan = 2, .patience = PATIENCE, .bound = BOUND};
-    CoshalitQuestion asked[16];
+    CoshalitQuestion asked[16], question = {0};
     CoshalitMatch found;
     uint32_t status;
+    size_t kept = 0; /* so many bytes of the log are known to be one */
 
     signal(SIGPIPE, SIG_IGN);
+    /* This process has one thread, so a child may call malloc, and the library. */
     for (int number = 1; number <= PROVERS; number++) begin(number);
 
     /* The case is agreed on before the match: of it the referee needs the root of the start. */
     CoshalitAnswer start = coshalit_start_root((const uint8_t *)CASES[0], strlen(CASES[0]), numbers.start, sizeof numbers.start);
     if (start.status != COSHALIT_DONE) stop("the case has no start");
 
-    while ((status = coshalit_match(&numbers, log_bytes, log_length, &found, asked, 16)) == COSHALIT_STILL_OPEN) {
-        /* One entry at a time: the first prover that is asked. A host may ask all of them at once, and append as answers come. */
-        const CoshalitQuestion question = asked[0];
-        size_t before = log_length;
-        long length = answer_of(&parties[question.prover - 1], &question, room);
-        /* An empty answer is none. It must not be appended: it would be a pass. */
-        if (length != 0) {
-            append(question.prover, &question, room, length > 0 ? (uint32_t)length : 0);
-            status = coshalit_match(&numbers, log_bytes, log_length, &found, asked, 16);
+    for (;;) {
+        status = coshalit_match(&numbers, log_bytes, log_length, &found, asked, 16);
+        if (status == COSHALIT_OUT_OF_MEMORY) {
+            usleep(1000 * PERIOD / 10); /* nothing was written: the same call again */
+            continue;
         }
-        if (length == 0 || status == COSHALIT_BAD_LOG) {
-            log_length = before;
-            printf("p%u sends what is no answer: dropped\n", question.prover);
+        if (status == COSHALIT_BAD_LOG && kept < log_length) {
+            log_length = kept; /* what came last is no answer: take it back */
+            drop_answer(question.prover);
             continue;
         }
         if (!is_of_a_match(status)) stop("the match can't be played");
-        printf("dispute %u round %u p%u %s %s: %s\n", question.dispute, question.round, question.prover, length > 0 ? "gives" : "passes on",
-               kind_of(question.kind), reply_of(found.reply));
+        if (kept < log_length) {
+            int is_pass = log_length == kept + 16;
+            printf("dispute %u round %u p%u %s %s: %s\n", question.dispute, question.round, question.prover,
+                   is_pass ? "passes on" : "gives", kind_of(question.kind), reply_of(found.reply));
+        }
+        kept = log_length; /* a host that has to survive a crash stores the entry here */
+        if (status != COSHALIT_STILL_OPEN) break;
+        question = asked[0];
+        append_next(&question);
     }
-    if (!is_of_a_match(status)) stop("the match can't be played");
     if (status == COSHALIT_ACCEPTED) printf("accepted: prover %u\n", found.accepted);
 
-    CoshalitAnswer full = coshalit_match_text(&numbers, log_bytes, log_length, text, sizeof text);
+    CoshalitAnswer full, audited;
+    while ((full = coshalit_match_text(&numbers, log_bytes, log_length, text, sizeof text)).status == COSHALIT_OUT_OF_MEMORY)
+        usleep(1000 * PERIOD / 10);
     if (full.status != status || full.length > sizeof text) stop("there is no text");
-    CoshalitAnswer audited = coshalit_audit(text, full.length, report, sizeof report);
+    while ((audited = coshalit_audit(text, full.length, report, sizeof report)).status == COSHALIT_OUT_OF_MEMORY)
+        usleep(1000 * PERIOD / 10);
     printf("the audit of the text: %.*s", (int)audited.length, (const char *)report);
     for (int number = 1; number <= PROVERS; number++) {
         close(parties[number - 1].questions);
