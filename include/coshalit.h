@@ -1,33 +1,42 @@
 /* The proved code of Coshalit for C, and for languages that call C: the referee of one step; the program's commands `audit`, `run` and
  * `list`, on bytes in memory; a match among your own parties; and the true answer of a prover of your own.
  *
- * Link libcoshalit_c.a (`rt lib` in crates/coshalit_c makes it, in out/) and examples/embed/heap.c, which gives it memory by the program's
- * own malloc, realloc and free:
+ * Link two things: libcoshalit_c.a, which `rt lib` makes in crates/coshalit_c/out and which a release has in lib; and bindings/go/heap.c,
+ * which gives the library memory by the program's own malloc, realloc and free:
  *
- *     cc -Iinclude my.c examples/embed/heap.c crates/coshalit_c/out/libcoshalit_c.a -o my
+ *     cc -Iinclude my.c bindings/go/heap.c crates/coshalit_c/out/libcoshalit_c.a -o my
  *
- * heap.c says what the three functions must do, for memory of another kind. They are to be linked once a program, whoever brings them
- * along. The library also takes memcpy, memmove, memset, and __udivti3 of libgcc or compiler-rt, which `cc` links.
+ * heap.c has three functions, and says what they must do, for memory of another kind. They are to be linked once in a program: if another
+ * library or package of the program brings them along, leave heap.c out. The library also takes memcpy, memmove, memset, and __udivti3 of
+ * libgcc or compiler-rt, which `cc` links. It is built for Linux on x86-64.
  *
- * By Semantic Versioning, these stay within a major version: the names and the types of this header, the layouts of its structs, what its
- * calls promise, and the numbers of statuses, replies, causes, rules and kinds. A minor version may add calls, and statuses where there was
- * a refusal: take an unknown status for a refusal. docs/TEXTS.md says what stays of the texts ('What stays').
+ * What else to read: docs/OPEN_MATCH.md for a host of matches, docs/COMMITMENTS.md for the bytes of answers and proofs, docs/PROGRAM.md for
+ * the JSON text of a case, docs/TEXTS.md and docs/FAULTS.md for the texts that are written.
+ *
+ * CHANGELOG.md says what stays from one version to the next ('What stays'): within a major version each name, type, layout, promise and
+ * number of this header. A minor version may add calls, and numbers of statuses where there was a refusal: take a status that you don't
+ * know for a refusal.
  *
  * Every call:
- * - takes slices as a pointer and a number of items, which are bytes unless the type says otherwise. The pointer may be null if the number
- *   is 0; a pointer without a number isn't null. What is read may overlap with something else that is read; what is written (`next`,
- *   `room`, `root`, `found`, `asked`, `balances`, `pool`) overlaps with nothing.
+ * - takes a slice as a pointer and a number of items. The items are bytes unless the type says otherwise. If the number is 0, the pointer
+ *   may be null; else it is not null. `numbers`, `found` and `pool` are single items: they are never null. A pointer that isn't null is
+ *   aligned for its type. What is read may overlap with something else that is read. What is written (`next`, `room`, `root`, `found`,
+ *   `asked`, `balances`, `pool`) overlaps with nothing.
  * - takes any items and any lengths, returns, and keeps nothing. The same arguments give the same answer, unless memory runs out.
- * - writes what is described there, and to no other byte of the caller.
+ * - writes what is described at the call, and to no other byte of the caller.
  * - may run in several threads at the same time, if what each writes is its own and malloc may be called from them. Not in a signal
- *   handler, nor in a child between fork and exec, unless malloc may be called there.
- * - wants stack: give a thread 1 MiB or more.
- * - can't be stopped. To bound its time, bound what you give it: a run takes at most as many steps as the bound of its case says, and all
- *   else takes time by the lengths of what is given (docs/COSTS.md).
- * - takes memory by the three functions of heap.c only, so bound it there. If one fails, the status is COSHALIT_OUT_OF_MEMORY, and the call
- *   has given back what it took.
+ *   handler. In a child after fork and before exec only if malloc may be called there: in general not if the parent had several threads.
+ * - needs stack: give a thread 1 MiB or more.
+ * - can't be stopped. To be able to stop it, run it in a process of its own, and end that process. To bound its time, bound what you give
+ *   it. A call that takes a case reads its text and loads its image. coshalit_run, coshalit_roots_at and coshalit_answer run its program
+ *   for at most as many steps as its bound says. coshalit_start_root, coshalit_roots_at and coshalit_answer make a tree of all pages of the
+ *   image: up to minutes and tens of gigabytes for an image whose loads share bytes of the file, also with a tiny bound. All else takes
+ *   time by the lengths of what is given. docs/COSTS.md has each call ('What a call of the library costs').
+ * - takes memory by the three functions of heap.c only. In C bound it there, or by a limit on the process. If a function fails, the status
+ *   is COSHALIT_OUT_OF_MEMORY. Then the call has given back what it took and has written nothing: the same call may be made again.
  *
- * A room of this many bytes always suffices, where n is the length of the output of the case's run, which is at most its bound:
+ * A room of this many bytes always suffices (by calculation, not proved), where n is the length of the output of the case's run, which is
+ * at most its bound:
  *
  *     coshalit_audit         the length of the text, and 64
  *     coshalit_run           2 n + 64
@@ -36,6 +45,8 @@
  *     coshalit_start_root    64
  *     coshalit_roots_at      32 for each step, and 64
  *     coshalit_answer        n + 2,948
+ *
+ * If n isn't known begin with 4,096 bytes: `length` says how many are needed. Then the second call does all the work again.
  */
 #ifndef COSHALIT_H
 #define COSHALIT_H
@@ -60,14 +71,14 @@ extern "C" {
 #define COSHALIT_NO_PROOF 3     /* the bytes are the wire form of no proof of a step */
 #define COSHALIT_WRONG_LENGTH 4 /* `root` or `next` hasn't 32 bytes */
 
-/* The exit statuses of the program, in the answers of coshalit_audit, coshalit_run and coshalit_list, and the statuses of a match. */
-#define COSHALIT_DONE 0           /* the text is confirmed; the case was run, or its image listed; its roots or its answer are the text */
+/* Statuses. Those of a command are the exit statuses of the program. */
+#define COSHALIT_DONE 0           /* the text is confirmed, or the case was run or listed, or the roots or the answer are the text */
 #define COSHALIT_BAD_CASE 3       /* the bytes are no case, or one without a listing: `fault case R ..` (docs/FAULTS.md has each R) */
 #define COSHALIT_BAD_IMAGE 4      /* the image of the case can't be loaded: `fault image R ..` */
 #define COSHALIT_AUDIT_REFUSED 8  /* the text is refused: `refused LINE CAUSE`, or `fault text R ..` if it can't be read */
-#define COSHALIT_OUT_OF_MEMORY 9  /* memory ran out: no text, `length` is 0, and nothing is written */
+#define COSHALIT_OUT_OF_MEMORY 9  /* memory ran out: nothing is written, and a `length` is 0. The same call may be made again */
 #define COSHALIT_TOO_LONG 12      /* more than 16,777,216 bytes: `fault too long` */
-#define COSHALIT_NOT_ASKED 2      /* no match of the case asks this, or its run has no such step: `fault usage` */
+#define COSHALIT_NOT_ASKED 2      /* no match of the case asks this, or a step is above its bound: `fault usage` */
 #define COSHALIT_ACCEPTED 0       /* a match: it is over, and a claim is accepted */
 #define COSHALIT_NONE_LEFT 10     /* a match: it is over, and nobody is left */
 #define COSHALIT_COLLISION 11     /* a match: it is over, and two different strings with one digest were shown */
@@ -75,21 +86,25 @@ extern "C" {
 #define COSHALIT_BAD_NUMBERS 14   /* a match: one of its numbers, or the stake, is beyond its limit */
 #define COSHALIT_BAD_LOG 15       /* a match: the bytes are no log */
 
-/* What a command answers, by value: 16 bytes where `size_t` has 8. */
+/* What a call answers that writes to a `room`. It is returned by value: 16 bytes where `size_t` has 8. What is written is called the text,
+ * also where it isn't in letters: a root has 32 bytes, and an answer is a wire form. */
 typedef struct CoshalitAnswer {
-    uint32_t status; /* the exit status of the program, one of those above */
+    uint32_t status; /* one of those above */
     size_t length;   /* how many bytes the text has, which may be more than there was room for */
 } CoshalitAnswer;
 
-/* The version of the library, written as in COSHALIT_VERSION. A program may use a library of the same major version that isn't older. */
+/* The version of the library, written as in COSHALIT_VERSION. A program that was compiled with this header may use each library that has
+ * the same major version and a version not below COSHALIT_VERSION. */
 uint32_t coshalit_version(void);
 
-/* The ruling on the proof of one step of the machine, from a root on which both sides agree, by SHA-256.
+/* The ruling on the proof of one step of the machine, from a root on which both sides agree, by SHA-256. Step s leads from state s, the
+ * state after s steps, to state s + 1.
  *
  * `version` is that of the commitment, 1, 2 or 3; with any other number no proof has the right shape. `root` has 32 bytes. `wire` is the
- * proof as it is sent: a proof of version 1 has at most 1,999 bytes, one of version 2 2,400, and one of version 3 2,948; more than 2,948
- * bytes are no proof, and a proof of another version than `version` has the wrong shape. The next root, of 32 bytes, is written to
- * `next` if the proof leads; otherwise `next` stays as it was. It takes no memory from malloc.
+ * proof as it is sent. As a form that is read, a proof has at most 1,999 bytes in version 1, 2,400 in version 2 and 2,948 in version 3. One
+ * that leads has at most 1,999, 2,236 and 2,272. More than 2,948 bytes are no proof, and a proof of another version than `version` has the
+ * wrong shape. The next root, of 32 bytes, is written to `next` if the proof leads; otherwise `next` stays as it was. The call takes no
+ * memory from malloc.
  *
  * Proved: it returns 4 if and only if a length is wrong. With right lengths it returns 3 if and only if no proof has these bytes, and 0
  * if and only if all conditions of the proof with these bytes hold from this root; then the root that is written is made of its parts
@@ -100,25 +115,29 @@ uint32_t coshalit_check_step(uint32_t version, const uint8_t *root, size_t root_
 /* Audits a full text, as `judge --full` writes it: COSHALIT_DONE and `confirmed VERDICT`, or COSHALIT_AUDIT_REFUSED and where and why it
  * is refused, or COSHALIT_TOO_LONG.
  *
- * Of the answer's text, which is empty or ends in a newline and has no zero byte behind it, the first `room_length` bytes are written to
- * `room`, and nothing behind the text. If `length` is more than `room_length`, the rest is missing: call again with a room of `length`
- * bytes, which does all the work again. The status and the text are those of the program's command `audit` on these bytes (proved).
+ * The answer's text is empty or ends in a newline, and no zero byte follows it. Its first `room_length` bytes are written to `room`, and
+ * nothing after the text. If `length` is more than `room_length`, the rest is missing: call again with a room of `length` bytes, which does
+ * all the work again. The status and the text are those of the program's command `audit` on these bytes (proved).
  *
- * What `confirmed` isn't. It isn't that the text is of your case, unless line 1 has the root that coshalit_start_root gives of the case,
- * and the case's provers, bound, patience, version and fan. It isn't worth anything by another digest than SHA-256: refuse a text unless
- * line 1 says `digest sha256`. It isn't that anybody sent these answers, nor that a prover whose answer is missing had the time for it. */
+ * What `confirmed` doesn't say:
+ * - that the text is of your case. Compare line 1: the root after `start` with that of coshalit_start_root, version and bound with the
+ *   case's, and provers, patience and fan with those that you agreed on, which needn't be the case's;
+ * - anything, by another digest than SHA-256: refuse a text unless line 1 says `digest sha256`;
+ * - that anybody sent these answers, or that a prover whose answer is missing had the time for it. */
 CoshalitAnswer coshalit_audit(const uint8_t *text, size_t text_length, uint8_t *room, size_t room_length);
 
-/* Runs the program of a case, a JSON text: COSHALIT_DONE and the line of its status and output at the bound, or COSHALIT_BAD_CASE,
- * COSHALIT_BAD_IMAGE or COSHALIT_TOO_LONG and why. It takes as long as the run, which the case bounds. The answer is as above, by the
- * command `run`. */
+/* Runs the program of a case, a JSON text (docs/PROGRAM.md): COSHALIT_DONE and the line of its status and output at the bound, or
+ * COSHALIT_BAD_CASE, COSHALIT_BAD_IMAGE or COSHALIT_TOO_LONG and why. It takes as long as the run, which the case bounds. The answer is as
+ * above, by the command `run`. A case needs all its keys for each call that takes one: `provers` and `patience` too, though they change no
+ * answer of this header. */
 CoshalitAnswer coshalit_run(const uint8_t *json, size_t json_length, uint8_t *room, size_t room_length);
 
 /* Lists the image of a case as assembly text, a line for each word: statuses as of coshalit_run. The answer is as above, by the command
  * `list`. */
 CoshalitAnswer coshalit_list(const uint8_t *json, size_t json_length, uint8_t *room, size_t room_length);
 
-/* A MATCH AMONG YOUR OWN PARTIES. You own a log of posts; the library plays it. docs/OPEN_MATCH.md says what a host has to do.
+/* A MATCH AMONG YOUR OWN PARTIES. You own a log of posts; the library plays it. docs/OPEN_MATCH.md has a host's loop, and what each status
+ * asks it to do.
  *
  * A log is a list of entries. All numbers have their least byte first:
  *
@@ -129,11 +148,13 @@ CoshalitAnswer coshalit_list(const uint8_t *json, size_t json_length, uint8_t *r
  * open questions may come in any order. An entry that doesn't name its prover's open question is stale, and changes nothing: keep it or
  * drop it. After the end of a match each entry is stale.
  *
- * WHOEVER MAY APPEND AN ENTRY WITH A PROVER'S NUMBER CAN LOSE THAT PROVER'S MATCH: authenticate senders, and write the number yourself. */
+ * WHOEVER MAY APPEND AN ENTRY WITH A PROVER'S NUMBER CAN LOSE THAT PROVER'S MATCH: authenticate senders, and write `prover` and `length`
+ * yourself. Never give an answer the number of the question that is open now: it may be a late answer to the question before. Take the
+ * number that the sender signed, or that of the question that you sent. */
 
 /* The numbers by which a match is played. The digest is SHA-256. `version`, `bound` and `start` are those of the case that the parties
- * agreed on. With others nothing is refused, but what is proved isn't about your case: all proofs may be refuted, and each prover that
- * answers by the case may lose. */
+ * agreed on; `provers`, `fan` and `patience` are the match's own. If the first three are others than the case's, nothing is refused, but
+ * what is proved isn't about your case: all proofs may be refuted, and each prover that answers by the case may lose. */
 typedef struct CoshalitNumbers {
     uint32_t version;  /* of the commitments, 1 to 3 */
     uint32_t provers;  /* 1 to 16 */
@@ -145,11 +166,12 @@ typedef struct CoshalitNumbers {
 
 /* What a question asks for, its `kind`. */
 #define COSHALIT_ASKS_CLAIM 1 /* the claim */
-#define COSHALIT_ASKS_ROOT 2  /* a root */
-#define COSHALIT_ASKS_PROOF 3 /* the proof of a step, in any version */
-#define COSHALIT_ASKS_ROOTS 5 /* several roots */
+#define COSHALIT_ASKS_ROOT 2  /* the root of the state after `low` steps */
+#define COSHALIT_ASKS_PROOF 3 /* the proof of step `low`, which leads from state `low` to state `low` + 1, in any version */
+#define COSHALIT_ASKS_ROOTS 5 /* the roots at the cuts of an interval */
 
-/* What a prover is asked. coshalit_answer takes `kind`, `low`, `high` and `parts` as they are here. */
+/* What a prover is asked. coshalit_answer takes `kind`, `low`, `high` and `parts` as they are here. A question has no wire form: send its
+ * numbers as text, or each in a fixed width with its least byte first, and not the struct. */
 typedef struct CoshalitQuestion {
     uint32_t prover;         /* from 1 */
     uint32_t dispute, round; /* the question's number; dispute 0 is the claim */
@@ -159,7 +181,8 @@ typedef struct CoshalitQuestion {
     uint64_t low, high;      /* the step of the root or of the proof, and 0; or the interval's two ends; of the claim 0 and 0 */
 } CoshalitQuestion;
 
-/* The reply to a post. By COSHALIT_FAULTY and COSHALIT_SPENT its prover is out. */
+/* The reply to a post. By COSHALIT_FAULTY or COSHALIT_SPENT its prover is out: by a claim at once, in a dispute as soon as the other side
+ * of the round is settled. */
 #define COSHALIT_NO_POST 0 /* the log is empty */
 #define COSHALIT_TAKEN 1   /* the answer or the pass counts, also for a proof that will be refuted */
 #define COSHALIT_FAULTY 2  /* the answer is of another kind than asked, a list of another length, or an unsound claim */
@@ -174,11 +197,11 @@ typedef struct CoshalitQuestion {
 /* What a match has come to after a log, or where the bytes are no log. */
 typedef struct CoshalitMatch {
     uint32_t reply;    /* to the last post, one of the above */
-    uint32_t accepted; /* the number of the accepted prover, or 0 */
+    uint32_t accepted; /* the number of the accepted prover, or 0. Its claim in the log has the accepted status and output */
     uint32_t asked;    /* how many provers have an open question */
     uint32_t cause;    /* of no log, one of the above; else 0 */
-    uint32_t rule;     /* of COSHALIT_NO_ANSWER: the rule that the bytes break, 1 to 5; else 0 */
-    uint64_t at;       /* of no log: where the first entry begins that is none; else 0 */
+    uint32_t rule;     /* of COSHALIT_NO_ANSWER: the number of the fault in the table of docs/COMMITMENTS.md, 'Wire forms'; else 0 */
+    uint64_t at;       /* of no log: where the first entry begins that is none; the log up to there is one. Else 0 */
 } CoshalitMatch;
 
 /* What the match of these numbers has come to after a log. COSHALIT_ACCEPTED, COSHALIT_NONE_LEFT or COSHALIT_COLLISION: it is over.
@@ -187,15 +210,16 @@ typedef struct CoshalitMatch {
  * COSHALIT_BAD_NUMBERS, COSHALIT_OUT_OF_MEMORY: nothing is written.
  *
  * Proved: what is found is that of the match after the posts of the log, and the place of a bad log is the first. Let `start` be the root
- * of a valid state without output. Whatever the others post, in whatever order: a prover in whose name only true answers are posted,
- * within the patience, is never out, and a match that is over accepts the status and the output of the run or shows two strings with one
- * digest. */
+ * of a valid state without output, in the match's version, and let there be a prover in whose name only true answers of the run from there
+ * are posted, and passes within the patience. Whatever the others post, in whatever order, that prover is never out; and if the match is
+ * over, it accepts the status and the output of the run, or shows two different strings with one digest. */
 uint32_t coshalit_match(const CoshalitNumbers *numbers, const uint8_t *log, size_t log_length, CoshalitMatch *found,
                         CoshalitQuestion *asked, size_t asked_length);
 
-/* The full text of a match that is over: the status is that of coshalit_match, and the text is as of coshalit_audit. While a question is
- * open, and with any other status, there is no text, `length` is 0, and nothing is written. The text is one that coshalit_audit confirms
- * (proved), if it has at most 16,777,216 bytes; a log of less than 4,000,000 bytes has such a text. */
+/* The full text of a match that is over: the status is that of coshalit_match, and the text is as of coshalit_audit. A text is written only
+ * with the status 0, 10 or 11; with any other `length` is 0, and nothing is written. The text is one that coshalit_audit confirms (proved),
+ * if it has at most 16,777,216 bytes. By calculation, not proved, a log of less than 4,000,000 bytes has such a text. The last line of a
+ * text whose match accepts a claim has the accepted status and output: `accept STATUS output BYTES`. */
 CoshalitAnswer coshalit_match_text(const CoshalitNumbers *numbers, const uint8_t *log, size_t log_length,
                                    uint8_t *room, size_t room_length);
 
@@ -203,9 +227,9 @@ CoshalitAnswer coshalit_match_text(const CoshalitNumbers *numbers, const uint8_t
  * prover that is out goes to the pool if it is out by its claim; if a dispute put it out, to the other side, or to the pool if both sides
  * are out (docs/GAME.md, 'Deposits').
  *
- * The balances are written to `balances`, in the order of the provers, as many as there is room for; room for 16 is always enough, and
- * what stands behind them stays. What is in the pool is written to `pool`. The status is that of coshalit_match, and
- * COSHALIT_BAD_NUMBERS also if `stake` is above 1,000,000,000. While a question is open, and with any other status, nothing is written. */
+ * The balances are written to `balances`, in the order of the provers, as many as there is room for; room for 16 is always enough. What
+ * comes after them in `balances` stays as it was. What is in the pool is written to `pool`. The status is that of coshalit_match; it is
+ * COSHALIT_BAD_NUMBERS also if `stake` is above 1,000,000,000. Only with the status 0, 10 or 11 is anything written. */
 uint32_t coshalit_match_balances(const CoshalitNumbers *numbers, uint64_t stake, const uint8_t *log, size_t log_length,
                                  uint64_t *balances, size_t balances_length, uint64_t *pool);
 
@@ -214,32 +238,43 @@ uint32_t coshalit_match_balances(const CoshalitNumbers *numbers, uint64_t stake,
 uint32_t coshalit_match_burned(const CoshalitNumbers *numbers, uint64_t stake, const uint8_t *log, size_t log_length,
                                uint64_t *balances, size_t balances_length, uint64_t *pool);
 
-/* A PROVER OF YOUR OWN. */
+/* A PROVER OF YOUR OWN.
+ *
+ * Nothing is kept between two calls: each of coshalit_roots_at and coshalit_answer loads the image, makes a tree of all its pages, and runs
+ * the program anew from step 0 up to the last step that it needs. A prover answers up to 34 questions for its claim and one dispute with
+ * the fan 2. So if runs are long, fetch the roots of many steps by one coshalit_roots_at, and answer root questions from them: the wire
+ * form of a root is the byte 2 and its 32 bytes, and that of several roots is the byte 5, their number in one byte, and the roots. */
 
 /* The root of the state in which the run of a case starts, by SHA-256: COSHALIT_DONE and its 32 bytes as the text. It is the `start` of
- * a match of this case, and ties a full text to the case: a text is of your case if line 1 has this root and the case's numbers. A
- * refusal is as of coshalit_run: a room of 32 bytes, such as `start` itself, then has the first 32 bytes of its text. */
+ * a match of this case, and ties a full text to the case (see coshalit_audit). A refusal is as of coshalit_run, and then `room` has the
+ * first bytes of its text and no root: check the status first, also if the room is the `start` of your numbers. It makes a tree of all
+ * pages of the image, and runs nothing. */
 CoshalitAnswer coshalit_start_root(const uint8_t *json, size_t json_length, uint8_t *room, size_t room_length);
 
 /* The roots of the states of a case's run after these many steps each, in the case's version and by SHA-256: COSHALIT_DONE and 32 bytes
  * for each, in the order of `steps`, as the text. The steps may have any order, and are reached by one run. A step above the case's
- * bound is COSHALIT_NOT_ASKED; other refusals are as of coshalit_run. It takes as long as the run up to the last of the steps. */
+ * bound is COSHALIT_NOT_ASKED; other refusals are as of coshalit_run. It makes a tree of all pages of the image, then runs the program up
+ * to the last of the steps, and digests between two of the steps what has changed. */
 CoshalitAnswer coshalit_roots_at(const uint8_t *json, size_t json_length, const uint64_t *steps, size_t count,
                                  uint8_t *room, size_t room_length);
 
 /* The true answer of a case's own run to a question, by SHA-256: COSHALIT_DONE and its wire form as the text. `kind`, `low`, `high` and
  * `parts` are those of a CoshalitQuestion. COSHALIT_NOT_ASKED: no match of the case asks this; other refusals are as of coshalit_run.
- * It takes as long as the run up to the step that is asked, which the case bounds. The case's fan, patience and provers change no answer.
+ * It makes a tree of all pages of the image, and then runs the program up to the step that is asked; to the bound for the claim. The
+ * case's fan, patience and provers change no answer.
+ *
+ * By calculation, not proved, a true answer has at most 2,948 bytes, or 122 + n for a claim whose output has n bytes.
  *
  * Proved: the answer is the plain answer of the run of the case, which is a true one. And by one law (`given_answers_are_right`): take a
- * match with the case's version, its bound and the root that coshalit_start_root gives, and any log. If each entry in a prover's name that
- * isn't stale is what this call gives on the question that is open, or a pass within the patience, that prover is never out, whatever the
- * others post; and a match that is over accepts the status and the output of the case's run, or shows two strings with one digest. No
- * question that such a match asks is refused. The law supposes a valid start, which coshalit_start_root shows if it gives a root. */
+ * match with the case's version, its bound and the root that coshalit_start_root gives, and any log. Let there be a prover such that each
+ * entry in its name that isn't stale is what this call gives on the question that is open, or a pass within the patience. That prover is
+ * never out, whatever the others post. If the match is over, it accepts the status and the output of the case's run, or shows two different
+ * strings with one digest. No question that such a match asks is refused, except that memory may run out. The law supposes a valid start:
+ * if coshalit_start_root gives a root, the start is valid. */
 CoshalitAnswer coshalit_answer(const uint8_t *json, size_t json_length, uint32_t kind, uint64_t low, uint64_t high, uint32_t parts,
                                uint8_t *room, size_t room_length);
 
-/* What coshalit_claim_root returns, beside COSHALIT_WRONG_LENGTH (`root` hasn't 32 bytes) and COSHALIT_OUT_OF_MEMORY. */
+/* What coshalit_claim_root returns, in addition to COSHALIT_WRONG_LENGTH (`root` hasn't 32 bytes) and COSHALIT_OUT_OF_MEMORY. */
 #define COSHALIT_SOUND 0    /* the claim is sound, and its root is in `root` */
 #define COSHALIT_UNSOUND 1  /* its length or its chain isn't that of its output */
 #define COSHALIT_NO_CLAIM 3 /* the bytes are the wire form of no claim */
