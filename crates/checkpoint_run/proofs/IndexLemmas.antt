@@ -1,6 +1,6 @@
 -- The places of the versions of each page.
-use Rattle.std.proofs.Common.{◌≡◌, ◌≢◌, ℕ, zero, suc, ◌+◌, ◌-◌, ◌/◌, ◌%◌, ◌<◌, ◌≤◌, cond, eqb, ◌||◌, Bool, List, [], ◌∷◌, ◌++◌, length, take, reverse, slice_index, slice_get, Option, Some, None, IfSome, true, false, true≢false, refl, sym, ap, subst, ◌∙◌, ⊎_elim, arith}
-use Rattle.std.proofs.lemmas.Bool.{cases_Bool, cases_eq, cases_lt, eq-eqb, ne_eqb, or_right}
+use Rattle.std.proofs.Common.{◌≡◌, ◌≢◌, ℕ, zero, suc, ◌+◌, ◌-◌, ◌/◌, ◌%◌, ◌<◌, ◌≤◌, cond, eqb, ltb, ◌||◌, List, [], ◌∷◌, ◌++◌, length, map, take, reverse, unwrap_or, slice_index, slice_get, Option, Some, None, true, false, true≢false, refl, sym, ap, subst, ◌∙◌, ⊎_elim, arith}
+use Rattle.std.proofs.lemmas.Bool.{cases_Bool, cases_eq, cases_lt, eq-eqb, ne_eqb, or_left, or_right}
 use Rattle.std.specs.Ordering.{nat_cmp}
 use Rattle.std.specs.Map.{lookup}
 use Rattle.std.specs.BTreeMap.{is_at}
@@ -8,10 +8,13 @@ use Rattle.std.specs.declared.vec.Vec.{Vec}
 use Rattle.std.specs.declared.alloc.Global.{Global}
 use Rattle.mem_plain.specs.Contents.{Contents, byte_at, has_page}
 use Rattle.mem_plain.specs.Pages.{byte_of}
-use Rattle.std.proofs.lemmas.List.{length-append, reverse-append}
+use Rattle.mem_plain.specs.declared.page.Page.{Page}
+use Rattle.std.proofs.lemmas.List.{length-append, map-append, reverse-append}
+use Rattle.std.proofs.lemmas.List.Sorted.{IsNonDecreasingBy-from_default, IsPartitionedBy-ltb}
+use Rattle.std.specs.List.Sorted.{IsPartitionedBy}
 use Rattle.std.proofs.lemmas.Option.{none-some, same_Some}
 use Rattle.checkpoint_run.specs.Versions.{first_of, pages_of, IsShownBut}
-use Rattle.checkpoint_run.specs.Places.{items_of, places_at, ArePlaces, IsKeyed, IsIndex, HasNone, IsLastBelow, IsPut}
+use Rattle.checkpoint_run.specs.Places.{items_of, places_at, ArePlaces, Ascend, IsIndex, HasNone, IsLastBelow, IsPut}
 use Rattle.checkpoint_run.proofs.VersionLemmas.{is_at-eqb, among_first, among_other}
 use Rattle.checkpoint_run.specs.declared.version.Version.{Version}
 
@@ -64,6 +67,14 @@ place_other pages n page places other are = record {
       (cases_lt k n);
   ascend = are.ascend;
 }
+
+-- those below a number are the first ones
+pub parted : (places : List ℕ) (count : ℕ) → Ascend places → IsPartitionedBy (λ p. ltb p count) places
+parted places count ascend = IsPartitionedBy-ltb (λ p. p) places count (IsNonDecreasingBy-from_default (λ p. p) places 0
+    (λ i j order below. ⊎_elim
+    (λ less. let risen = ascend i j less below in omega arith)
+    (λ past. let same : i ≡ j = omega arith in let equal = ap (slice_index places) same in omega arith)
+    (cases_lt i j)))
 
 -- the last place below a number, by how many are below it
 module _ (pages : List ℕ) (n page count : ℕ) (places : List ℕ) (are : ArePlaces pages n page places) (within : count ≤ n) (c : ℕ)
@@ -142,38 +153,28 @@ first_last vs page (suc m) k v within last is =
     ∙ first_last vs page m k v (omega arith) (record { below = less; there = last.there; last = λ j past low. last.last j past (omega arith) }) is)
     (cases_eq k m)
 
--- an index of nothing
-pub empty_index : (pages : List ℕ) → IsIndex [] [] pages 0
-empty_index pages = record {
-  each = λ page. no_places pages page;
-  keyed = λ page. tt;
-}
+-- the places that are kept, or no places
+pub items_or : (kept : Option (Vec ℕ Global)) (none : Vec ℕ Global) → none.items ≡ [] → (unwrap_or kept none).items ≡ items_of kept
+items_or (Some places) none empty = refl
+items_or None none empty = empty
 
 -- an index with one place more
-module _ (old mid new : List (ℕ × Vec ℕ Global)) (named more pages : List ℕ) (page place : ℕ) (v : Vec ℕ Global)
-    (updates : (q : ℕ) → lookup (is_at (nat_cmp q)) new ≡ cond (is_at (nat_cmp page) q) (Some v) (lookup (is_at (nat_cmp q)) mid)) where
+module _ (old new : List (ℕ × Vec ℕ Global)) (pages : List ℕ) (page place : ℕ) (v : Vec ℕ Global)
+    (updates : (q : ℕ) → lookup (is_at (nat_cmp q)) new ≡ cond (is_at (nat_cmp page) q) (Some v) (lookup (is_at (nat_cmp q)) old)) where
   found_here : (q : ℕ) → q ≡ page → lookup (is_at (nat_cmp q)) new ≡ Some v
-  found_here q same = updates q ∙ ap (λ b. cond b (Some v) (lookup (is_at (nat_cmp q)) mid)) (is_at-eqb page q ∙ eq-eqb q page same)
+  found_here q same = updates q ∙ ap (λ b. cond b (Some v) (lookup (is_at (nat_cmp q)) old)) (is_at-eqb page q ∙ eq-eqb q page same)
 
-  found_elsewhere : (q : ℕ) → q ≢ page → lookup (is_at (nat_cmp q)) new ≡ lookup (is_at (nat_cmp q)) mid
-  found_elsewhere q other = updates q ∙ ap (λ b. cond b (Some v) (lookup (is_at (nat_cmp q)) mid)) (is_at-eqb page q ∙ ne_eqb q page other)
+  found_elsewhere : (q : ℕ) → q ≢ page → lookup (is_at (nat_cmp q)) new ≡ lookup (is_at (nat_cmp q)) old
+  found_elsewhere q other = updates q ∙ ap (λ b. cond b (Some v) (lookup (is_at (nat_cmp q)) old)) (is_at-eqb page q ∙ ne_eqb q page other)
 
-  pub index_more : slice_index pages place ≡ page → IsIndex old named pages place → v.items ≡ places_at old page ++ place ∷ [] → ((p : ℕ) → p ≢ page → places_at mid p ≡ places_at old p)
-      → IsKeyed mid more → has_page more page ≡ true → IsIndex new more pages (place + 1)
-  index_more is index items others keyed named_here =
-      let P : ℕ → List ℕ → Type 0 = λ q places. ArePlaces pages (place + 1) q places in
-      let K : ℕ → Option (Vec ℕ Global) → Type 0 = λ q o. IfSome o (λ x. has_page more q ≡ true) in
-      record {
-        each = λ q. ⊎_elim
-            (λ (same : q ≡ page). subst (P q) (sym (ap items_of (found_here q same) ∙ items))
-            (let at : slice_index pages place ≡ q = is ∙ sym same in let was : ArePlaces pages place q (places_at old page) = subst (λ p. ArePlaces pages place q (places_at old p)) same (index.each q) in place_more pages place q (places_at old page) at was))
-            (λ other. subst (P q) (sym (ap items_of (found_elsewhere q other) ∙ others q other)) (place_other pages place q (places_at old q) (λ at. other (sym at ∙ is)) (index.each q)))
-            (cases_eq q page);
-        keyed = λ q. ⊎_elim
-            (λ (same : q ≡ page). subst (K q) (sym (found_here q same)) (ap (has_page more) same ∙ named_here))
-            (λ other. subst (K q) (sym (found_elsewhere q other)) (keyed q))
-            (cases_eq q page);
-      }
+  pub index_more : slice_index pages place ≡ page → IsIndex old pages place → v.items ≡ places_at old page ++ place ∷ [] → IsIndex new pages (place + 1)
+  index_more is index items q =
+      let P : List ℕ → Type 0 = λ places. ArePlaces pages (place + 1) q places in
+      ⊎_elim
+      (λ (same : q ≡ page). subst P (sym (ap items_of (found_here q same) ∙ items))
+      (let at : slice_index pages place ≡ q = is ∙ sym same in let was : ArePlaces pages place q (places_at old page) = subst (λ p. ArePlaces pages place q (places_at old p)) same (index q) in place_more pages place q (places_at old page) at was))
+      (λ other. subst P (sym (ap items_of (found_elsewhere q other))) (place_other pages place q (places_at old q) (λ at. other (sym at ∙ is)) (index q)))
+      (cases_eq q page)
 
 -- no page was put into a memory
 pub put_nothing : (taken : List Version) (m : Contents) → ((a : ℕ) → byte_at m a ≡ 0) → IsPut taken [] m
@@ -207,12 +208,12 @@ module _ (taken : List Version) (put : List ℕ) (page : ℕ) where
     empty = λ a below absent. is.empty a below (sym (among_end_other put page (a / 4096) (other_page (a / 4096) absent)) ∙ absent);
   }
 
-  pub put_some : (m n : Contents) (v : Version) → v.page ≡ page → first_of (reverse taken) page ≡ Some v.bytes
-      → ((q : ℕ) → byte_at n q ≡ cond (eqb (q / 4096) v.page) (slice_index v.bytes.bytes.items (q % 4096)) (byte_at m q)) → IsPut taken put m → IsPut taken (put ++ page ∷ []) n
-  put_some m n v at found new is = record {
+  pub put_some : (m n : Contents) (bytes : Page) → first_of (reverse taken) page ≡ Some bytes
+      → ((q : ℕ) → byte_at n q ≡ cond (eqb (q / 4096) page) (slice_index bytes.bytes.items (q % 4096)) (byte_at m q)) → IsPut taken put m → IsPut taken (put ++ page ∷ []) n
+  put_some m n bytes found new is = record {
     shown = λ a below there. ⊎_elim
         (λ (same : a / 4096 ≡ page).
-        new a ∙ (ap (λ b. cond b (slice_index v.bytes.bytes.items (a % 4096)) (byte_at m a)) (eq-eqb (a / 4096) v.page (same ∙ sym at))
+        new a ∙ (ap (λ b. cond b (slice_index bytes.bytes.items (a % 4096)) (byte_at m a)) (eq-eqb (a / 4096) page same)
         ∙ sym (ap (λ o. byte_of o (a % 4096)) (ap (first_of (reverse taken)) same ∙ found))))
         (λ other. kept a other ∙ is.shown a below (sym (among_end_other put page (a / 4096) other) ∙ there))
         (cases_eq (a / 4096) page);
@@ -220,21 +221,31 @@ module _ (taken : List Version) (put : List ℕ) (page : ℕ) where
   }
     where
       kept : (a : ℕ) → a / 4096 ≢ page → byte_at n a ≡ byte_at m a
-      kept a other = new a ∙ ap (λ b. cond b (slice_index v.bytes.bytes.items (a % 4096)) (byte_at m a)) (ne_eqb (a / 4096) v.page (λ same. other (same ∙ at)))
+      kept a other = new a ∙ ap (λ b. cond b (slice_index bytes.bytes.items (a % 4096)) (byte_at m a)) (ne_eqb (a / 4096) page other)
 
--- a page that isn't named has no place
-no_key : (o : Option (Vec ℕ Global)) (b : Bool) → b ≡ false → IfSome o (λ v. b ≡ true) → items_of o ≡ []
-no_key None b absent key = refl
-no_key (Some v) b absent key = absurd (true≢false (sym key ∙ absent))
+-- the pages of an index
+abbrev pub keys_of : List (ℕ × Vec ℕ Global) → List ℕ
+keys_of entries = map (λ e. e.0) entries
 
--- where all pages that are named were put, the memory is what the versions stand for
-pub all_put : (vs : List Version) (count : ℕ) (entries : List (ℕ × Vec ℕ Global)) (named : List ℕ) (m : Contents) → count ≤ length vs → IsIndex entries named (pages_of vs) (length vs)
-    → IsPut (take count vs) named m → IsShownBut (take count vs) [] m
-all_put vs count entries named m within index is a below none = ⊎_elim
+-- a page that isn't one of them has no place
+no_key : (entries : List (ℕ × Vec ℕ Global)) (page : ℕ) → has_page (keys_of entries) page ≡ false → places_at entries page ≡ []
+no_key [] page absent = refl
+no_key (e ∷ entries) page absent = ⊎_elim
+    (λ here. absurd (true≢false (sym (or_left _ (has_page (keys_of entries) page) here) ∙ absent)))
+    (λ other. ap (λ b. items_of (cond b (Some e.1) (lookup (is_at (nat_cmp page)) entries))) other ∙ no_key entries page (ap (λ b. b || has_page (keys_of entries) page) (sym other) ∙ absent))
+    (cases_Bool (is_at (nat_cmp page) e.0))
+
+-- one entry more was gone over
+pub keys_more : (done : List (ℕ × Vec ℕ Global)) (e : ℕ × Vec ℕ Global) → keys_of (done ++ e ∷ []) ≡ keys_of done ++ e.0 ∷ []
+keys_more done e = map-append (λ (x : ℕ × Vec ℕ Global). x.0) done (e ∷ [])
+
+-- where all pages with places were put, the memory is what the versions stand for
+pub all_put : (vs : List Version) (count : ℕ) (entries : List (ℕ × Vec ℕ Global)) (m : Contents) → count ≤ length vs → IsIndex entries (pages_of vs) (length vs)
+    → IsPut (take count vs) (keys_of entries) m → IsShownBut (take count vs) [] m
+all_put vs count entries m within index is a below none = ⊎_elim
     (λ there. is.shown a below there)
     (λ absent.
     let page = a / 4096 in
-    let nowhere = no_key (lookup (is_at (nat_cmp page)) entries) (has_page named page) absent (index.keyed page) in
-    let nothing : HasNone (pages_of vs) page count = λ j low same. let found = (index.each page).full j (omega arith) same in let len = ap length nowhere in let place = found.1 in absurd (omega arith) in
+    let nothing : HasNone (pages_of vs) page count = λ j low same. let found = (index page).full j (omega arith) same in let len = ap length (no_key entries page absent) in let place = found.1 in absurd (omega arith) in
     is.empty a below absent ∙ sym (ap (λ o. byte_of o (a % 4096)) (first_none vs page count within nothing)))
-    (cases_Bool (has_page named (a / 4096)))
+    (cases_Bool (has_page (keys_of entries) (a / 4096)))

@@ -15,8 +15,8 @@ use Rattle.checkpoint_run.specs.NamedPages.{IsNamed, ArePages}
 use Rattle.checkpoint_run.specs.WrittenPages.{stored_by, flipped_by, written_by, count_named, writes}
 use Rattle.checkpoint_run.specs.Keeping.{StandsFor, AllStand, IsAdded, at_first, state_by}
 use Rattle.rv_step.specs.declared.machine.Machine.{Machine}
-use Rattle.checkpoint_run.specs.UnderWay.{AllChained, IsKeptTo}
-use Rattle.checkpoint_run.specs.declared.recording.Kept.{Kept}
+use Rattle.checkpoint_run.specs.UnderWay.{AllChained, IsRecordedTo}
+use Rattle.checkpoint_run.specs.declared.recording.RecordedPages.{RecordedPages}
 use Rattle.checkpoint_run.specs.declared.checkpoint.Checkpoint.{Checkpoint}
 use Rattle.checkpoint_run.specs.declared.version.Version.{Version}
 
@@ -88,21 +88,21 @@ module _ (pages : List (Option ℕ)) (two : length pages ≡ 2) (old between new
       → ((p : ℕ) → has_page between p ≡ false → IsNamed p (get_or pages 0 None ∷ []) → ⊥) → ((p : ℕ) → has_page between p ≡ false → has_page old p ≡ false)
       → ((p : ℕ) → has_page new p ≡ false → IsNamed p (get_or pages 1 None ∷ []) → ⊥) → ((p : ℕ) → has_page new p ≡ false → has_page between p ≡ false)
       → ((q : ℕ) → ¬ IsNamed (q / 4096) pages → byte_at n q ≡ byte_at m q) → IsShownBut versions old m → IsShownBut versions new n
-  noted_shown versions m n named-1 kept-1 named-2 kept-2 elsewhere shown a below none =
-      let none-1 = kept-2 (a / 4096) none in
+  noted_shown versions m n named-1 recorded-1 named-2 recorded-2 elsewhere shown a below none =
+      let none-1 = recorded-2 (a / 4096) none in
       elsewhere a (λ named. ⊎_elim (named-1 (a / 4096) none-1) (named-2 (a / 4096) none) (named_apart pages two (a / 4096) named))
-      ∙ shown a below (kept-1 (a / 4096) none-1)
+      ∙ shown a below (recorded-1 (a / 4096) none-1)
 
 -- the pages that are noted after a step are no more than those that were written
 how_many_two : (a b : Option ℕ) → count_named (a ∷ b ∷ []) ≡ count_named (a ∷ []) + count_named (b ∷ [])
 how_many_two None b = omega arith
 how_many_two (Some page) b = omega arith
 
-pub noted_few : (tamper : Tamper) (first : State) (at : ℕ) (pages : List (Option ℕ)) (kept old between new start : ℕ)
+pub noted_few : (tamper : Tamper) (first : State) (at : ℕ) (pages : List (Option ℕ)) (recorded old between new start : ℕ)
     → pages ≡ written_by tamper at (run_from tamper first at)
     → between ≤ old + count_named (get_or pages 0 None ∷ []) → new ≤ between + count_named (get_or pages 1 None ∷ [])
-    → kept + old ≤ start + writes tamper first at → kept + new ≤ start + writes tamper first (at + 1)
-noted_few tamper first at pages kept old between new start written few-1 few-2 before =
+    → recorded + old ≤ start + writes tamper first at → recorded + new ≤ start + writes tamper first (at + 1)
+noted_few tamper first at pages recorded old between new start written few-1 few-2 before =
     let a = stored_by tamper at (run_from tamper first at) in
     let b = flipped_by tamper (at + 1) in
     let one : count_named (get_or pages 0 None ∷ []) ≡ count_named (a ∷ []) = ap (λ ps. count_named (get_or ps 0 None ∷ [])) written in
@@ -159,9 +159,9 @@ writes_more tamper first i (suc k) =
     omega arith
 
 -- what is kept up to a step is kept up to a later one with the same state
-pub kept_later : (digest : List ℕ → List ℕ) (tamper : Tamper) (first : State) (at later : ℕ) (machine : Machine) (kept : Kept) → at ≤ later → run_from tamper first later ≡ run_from tamper first at
-    → IsKeptTo digest tamper first at machine kept → IsKeptTo digest tamper first later machine kept
-kept_later digest tamper first at later machine kept after same k =
+pub kept_later : (digest : List ℕ → List ℕ) (tamper : Tamper) (first : State) (at later : ℕ) (machine : Machine) (recorded : RecordedPages) → at ≤ later → run_from tamper first later ≡ run_from tamper first at
+    → IsRecordedTo digest tamper first at machine recorded → IsRecordedTo digest tamper first later machine recorded
+kept_later digest tamper first at later machine recorded after same k =
     let more = writes_more tamper first at (later - at) in
     let whole : writes tamper first (at + (later - at)) ≡ writes tamper first later = ap (writes tamper first) (omega arith) in
     let few = k.few in

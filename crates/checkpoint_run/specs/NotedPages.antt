@@ -1,7 +1,7 @@
 -- Derived: pages that were noted lately, so that they aren't looked up among all.
-use Rattle.std.specs.Prelude.{◌≡◌, ℕ, ◌+◌, true, List, slice_index}
+use Rattle.std.specs.Prelude.{◌≡◌, ℕ, true, List, Option, Some, None, slice_index_or}
 use Rattle.mem_plain.specs.Contents.{has_page}
 
--- the entry at a place, if it isn't 0, is the number of a page among some, and 1 more
-abbrev pub AreNoted : List ℕ → List ℕ → Type 0
-AreNoted lately pages = (k p : ℕ) → slice_index lately k ≡ p + 1 → has_page pages p ≡ true
+-- a page that is named at a place is among some
+abbrev pub AreNoted : List (Option ℕ) → List ℕ → Type 0
+AreNoted recent pages = (k p : ℕ) → slice_index_or recent k None ≡ Some p → has_page pages p ≡ true

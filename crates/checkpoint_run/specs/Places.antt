@@ -1,5 +1,5 @@
 -- Derived: the places of the versions of each page, by which the pages of a checkpoint are found.
-use Rattle.std.specs.Prelude.{◌≡◌, ◌≢◌, ℕ, ◌/◌, ◌<◌, ◌^◌, List, [], length, slice_index, Option, Some, None, true, false, IfSome}
+use Rattle.std.specs.Prelude.{◌≡◌, ◌≢◌, ℕ, ◌/◌, ◌<◌, ◌^◌, List, [], length, slice_index, Option, Some, None, true, false}
 use Rattle.std.specs.Ordering.{nat_cmp}
 use Rattle.std.specs.Map.{lookup}
 use Rattle.std.specs.BTreeMap.{is_at}
@@ -28,14 +28,9 @@ pub record ArePlaces (pages : List ℕ) (n page : ℕ) (places : List ℕ) : Typ
   pub full : (k : ℕ) → k < n → slice_index pages k ≡ page → (j : ℕ) × (j < length places) × (slice_index places j ≡ k)
   pub ascend : Ascend places
 
--- each page that has places is named
-abbrev pub IsKeyed : List (ℕ × Vec ℕ Global) → List ℕ → Type 0
-IsKeyed entries named = (page : ℕ) → IfSome (lookup (is_at (nat_cmp page)) entries) (λ places. has_page named page ≡ true)
-
 -- for each page the places below a number at which it occurs in a list of pages
-pub record IsIndex (entries : List (ℕ × Vec ℕ Global)) (named pages : List ℕ) (n : ℕ) : Type 0 where
-  pub each : (page : ℕ) → ArePlaces pages n page (places_at entries page)
-  pub keyed : IsKeyed entries named
+abbrev pub IsIndex : List (ℕ × Vec ℕ Global) → List ℕ → ℕ → Type 0
+IsIndex entries pages n = (page : ℕ) → ArePlaces pages n page (places_at entries page)
 
 -- a page occurs at no place below a number
 abbrev pub HasNone : List ℕ → ℕ → ℕ → Type 0

@@ -1,5 +1,5 @@
 -- Derived, a part of the view of `Run`: the memory that versions of pages stand for, of which the last one of a page counts.
-use Rattle.std.specs.Prelude.{◌≡◌, ℕ, ◌/◌, ◌%◌, ◌^◌, ◌<◌, ◌==◌, Bool, true, false, List, [], ◌∷◌, map, reverse, Option, Some, None, if◌then◌else◌}
+use Rattle.std.specs.Prelude.{◌≡◌, ℕ, ◌/◌, ◌%◌, ◌^◌, ◌<◌, ◌==◌, true, false, List, [], ◌∷◌, map, reverse, Option, Some, None, if◌then◌else◌}
 use Rattle.mem_plain.specs.Contents.{Contents, contents_with, byte_at, has_page}
 use Rattle.mem_plain.specs.Pages.{byte_of}
 use Rattle.mem_plain.specs.declared.page.Page.{Page}

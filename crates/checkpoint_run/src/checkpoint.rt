@@ -1,8 +1,8 @@
 //! Checkpoints of a run, and the versions of its pages: of all versions of a page that come before a checkpoint, the last one is the page.
-ghost use Rattle.std.specs.Prelude.{◌≡◌, ◌≢◌, ℕ, ◌+◌, ◌*◌, ◌<◌, ◌≤◌, ◌^◌, ◌++◌, ◌∷◌, [], List, length, take, slice_index, true, IfOk, OnOk, IfSome, IfNone};
+ghost use Rattle.std.specs.Prelude.{◌≡◌, ℕ, ◌+◌, ◌*◌, ◌<◌, ◌≤◌, ◌^◌, ◌++◌, ◌∷◌, [], List, length, take, slice_index, true, IfOk, OnOk, IfSome, IfNone};
 ghost use Rattle.mem_plain.specs.Contents.{IsUsed, has_page};
 ghost use Rattle.checkpoint_run.specs.Versions.{pictured, pages_of, AreBelow, IsShownBut};
-ghost use Rattle.checkpoint_run.specs.Places.{IsIndex, IsPut, ArePlaces, IsKeyed, IsLastBelow, HasNone, Ascend, places_at};
+ghost use Rattle.checkpoint_run.specs.Places.{IsIndex, IsPut, ArePlaces, IsLastBelow, HasNone, Ascend};
 ghost use Rattle.checkpoint_run.specs.declared.version.Version.{Version};
 ghost use Rattle.checkpoint_run.specs.Keeping.{IsAdded, found_at};
 
@@ -13,70 +13,28 @@ use rv_step::Machine;
 use std::alloc::Global;
 use std::collections::{BTreeMap, BTreeSet};
 
-/// The pages that have a version, and the places of the versions of each, in their order.
-#[derive(Drop)]
-pub struct PagePlaces {
-    pub pages: Vec<u32>,
-    pub places: BTreeMap<u32, Vec<usize>>,
-}
-
-/// Takes the places of a page out of an index, which names the page from now on.
-fn take_places(alloc: Global, index: &mut PagePlaces, page: u32) -> Result<Vec<usize>, Memory>
-    ensures taken { IfOk result (λ v. v.items ≡ places_at index.old.places.entries page) }
-    ensures others { (p : ℕ) → p ≢ page → places_at index.new.places.entries p ≡ places_at index.old.places.entries p }
-    ensures keyed { OnOk result (IsKeyed index.old.places.entries index.old.pages.items → IsKeyed index.new.places.entries index.new.pages.items) }
-    ensures here { OnOk result (IsKeyed index.old.places.entries index.old.pages.items → has_page index.new.pages.items page ≡ true) }
-{
-    match index.places.remove(&page) {
-        Some(places) => Ok(places),
-        None => {
-            index.pages.push(page)?;
-            Ok(Vec::new(alloc))
-        }
-    }
-}
-
 /// Adds the place of a version of a page, behind all that were added.
-fn add_place(alloc: Global, index: &mut PagePlaces, page: u32, place: usize) -> Result<(), Memory>
-    ensures { (pages : List ℕ) → slice_index pages place ≡ page → IsIndex index.old.places.entries index.old.pages.items pages place → OnOk result (IsIndex index.new.places.entries index.new.pages.items pages (place + 1)) }
+fn add_place(
+    alloc: Global,
+    index: &mut BTreeMap<u32, Vec<usize>>,
+    page: u32,
+    place: usize,
+) -> Result<(), Memory>
+    ensures { (pages : List ℕ) → slice_index pages place ≡ page → IsIndex index.old.entries pages place → OnOk result (IsIndex index.new.entries pages (place + 1)) }
 {
-    let mut places = take_places(alloc, index, page)?;
-    places.push(place)?;
-    index.places.insert(page, places)?;
+    index.entry(page)?.or_insert(Vec::new(alloc)).push(place)?;
     Ok(())
 }
 
-/// The places of the versions of each page.
-pub fn index_of(alloc: Global, versions: &[Version]) -> Result<PagePlaces, Memory>
-    ensures { IfOk result (λ x. IsIndex x.places.entries x.pages.items (pages_of versions.now) (length versions.now)) }
+/// The places of the versions of each page that has one, in their order.
+pub fn index_of(alloc: Global, versions: &[Version]) -> Result<BTreeMap<u32, Vec<usize>>, Memory>
+    ensures { IfOk result (λ x. IsIndex x.entries (pages_of versions.now) (length versions.now)) }
 {
-    let mut index = PagePlaces {
-        pages: Vec::new(alloc),
-        places: BTreeMap::new(alloc),
-    };
+    let mut index = BTreeMap::new(alloc);
     'versions: for place in 0..versions.len() {
         add_place(alloc, &mut index, versions[place].page, place)?;
     }
     Ok(index)
-}
-
-/// How many of some places, which ascend, are below a number.
-fn count_below(places: &[usize], count: usize) -> usize
-    ensures most { result ≤ length places.now }
-    ensures below { Ascend places.now → (k : ℕ) → k < result → slice_index places.now k < count }
-    ensures above { Ascend places.now → (k : ℕ) → result ≤ k → k < length places.now → count ≤ slice_index places.now k }
-{
-    let mut low = 0;
-    let mut high = places.len();
-    'places: while low < high {
-        let mid = low + (high - low) / 2;
-        if places[mid] < count {
-            low = mid + 1;
-        } else {
-            high = mid;
-        }
-    }
-    low
 }
 
 /// The last of some places, which ascend, that is below a number; `None` if there is none.
@@ -85,24 +43,11 @@ fn last_below(places: &[usize], count: usize) -> Option<usize>
     ensures some { (pages : List ℕ) (n page : ℕ) → ArePlaces pages n page places.now → count ≤ n → IfSome result (λ k. IsLastBelow pages page count k) }
     ensures none { (pages : List ℕ) (n page : ℕ) → ArePlaces pages n page places.now → count ≤ n → IfNone result (HasNone pages page count) }
 {
-    let below = count_below(places, count);
+    let below = places.partition_point(|place| *place < count);
     if below == 0 {
         return None;
     }
     Some(places[below - 1])
-}
-
-/// The last place below a number at which there is a version of a page; `None` if there is none.
-fn last_place(index: &PagePlaces, page: u32, count: usize) -> Option<usize>
-    requires { (pages : List ℕ) × (n : ℕ) × IsIndex index.now.places.entries index.now.pages.items pages n }
-    ensures below { IfSome result (λ k. k < count) }
-    ensures some { (pages : List ℕ) (n : ℕ) → IsIndex index.now.places.entries index.now.pages.items pages n → count ≤ n → IfSome result (λ k. IsLastBelow pages page count k) }
-    ensures none { (pages : List ℕ) (n : ℕ) → IsIndex index.now.places.entries index.now.pages.items pages n → count ≤ n → IfNone result (HasNone pages page count) }
-{
-    match index.places.get(&page) {
-        Some(places) => last_below(places, count),
-        None => None,
-    }
 }
 
 /// A state of a run: a step that has it, its registers and control fields, and how many versions of pages come before it. Its output
@@ -194,22 +139,21 @@ pub fn place_of(checkpoints: &[Checkpoint], every: u32, checkpoint: u64) -> usiz
     }
 }
 
-/// Puts the last version of a page that is below a place into a memory, if there is one.
+/// Puts the last version of a page that is below a place into a memory, if there is one. The page has its versions at `places`.
 fn put_last(
     versions: &[Version],
-    index: &PagePlaces,
+    places: &[usize],
     page: u32,
     count: usize,
     mem: &mut PlainMem,
 ) -> Result<(), Memory>
     requires count { count ≤ length versions.now }
-    requires index { IsIndex index.now.places.entries index.now.pages.items (pages_of versions.now) (length versions.now) }
+    requires places { ArePlaces (pages_of versions.now) (length versions.now) page places.now }
     ensures { (put : List ℕ) → IsPut (take count versions.now) put mem.old → OnOk result (IsPut (take count versions.now) (put ++ page ∷ []) mem.new) }
 {
-    match last_place(index, page, count) {
+    match last_below(places, count) {
         Some(place) => {
-            let version = &versions[place];
-            mem.put_page(version.page, version.bytes.clone()?)?;
+            mem.put_page(page, versions[place].bytes.clone()?)?;
             Ok(())
         }
         None => Ok(()),
@@ -221,18 +165,18 @@ fn put_last(
 pub fn restored(
     alloc: Global,
     versions: &[Version],
-    index: &PagePlaces,
+    index: &BTreeMap<u32, Vec<usize>>,
     count: usize,
 ) -> Result<PlainMem, Memory>
     requires count { count ≤ length versions.now }
-    requires index { IsIndex index.now.places.entries index.now.pages.items (pages_of versions.now) (length versions.now) }
+    requires index { IsIndex index.now.entries (pages_of versions.now) (length versions.now) }
     ensures { IfOk result (λ m. m ≡ pictured (take count versions.now)) }
 {
     contents_of_a_function();
     laying_bytes();
     let mut mem = PlainMem::new(alloc);
-    'pages: for page in &index.pages {
-        put_last(versions, index, *page, count, &mut mem)?;
+    'pages: for (page, places) in index.iter() {
+        put_last(versions, places, *page, count, &mut mem)?;
     }
     mem.is_memory();
     Ok(mem)

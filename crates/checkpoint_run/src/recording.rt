@@ -9,10 +9,10 @@ ghost use Rattle.checkpoint_run.specs.WrittenPages.{count_named};
 ghost use Rattle.checkpoint_run.specs.Versions.{AreBelow, IsShownBut};
 ghost use Rattle.checkpoint_run.specs.NotedPages.{AreNoted};
 ghost use Rattle.checkpoint_run.specs.Keeping.{IsPushed};
-ghost use Rattle.checkpoint_run.specs.UnderWay.{IsKeptTo, IsUnderWay, HasEnded, IsAtEnd};
+ghost use Rattle.checkpoint_run.specs.UnderWay.{IsRecordedTo, IsUnderWay, HasEnded, IsAtEnd};
 
 use crate::checkpoint::{Checkpoint, add_checkpoint, used_pages};
-use crate::tampering::{follow, has_ended, tamper_at, tamper_to_come};
+use crate::tampering::{has_ended, step_tampered, tamper_at, tamper_to_come};
 use crate::version::Version;
 use digest_core::Digester;
 use rd_base::{Memory, Tamper};
@@ -21,15 +21,15 @@ use std::alloc::Global;
 use std::collections::BTreeSet;
 
 /// How many places there are for pages that were noted lately.
-const PLACES: u32 = 256;
+const RECENT_PLACES: u32 = 256;
 
 /// What is kept of a run that is being recorded: the pages that were written since the last checkpoint, the versions of pages, and the
 /// checkpoints.
 #[derive(Drop)]
-pub struct Kept {
+pub struct RecordedPages {
     pub changed: BTreeSet<u32>,
-    /// Some of the changed pages, each as its number + 1 at the place of the number's low eight bits. 0 names none.
-    pub lately: Vec<u64>,
+    /// Some of the changed pages, each at the place of its number's low eight bits.
+    pub recent: Vec<Option<u32>>,
     pub versions: Vec<Version>,
     pub checkpoints: Vec<Checkpoint>,
 }
@@ -40,7 +40,7 @@ pub struct Recording {
     pub machine: Machine,
     pub at: u64,
     pub left: u32,
-    pub kept: Kept,
+    pub recorded: RecordedPages,
 }
 
 /// The machine of step 0, after what the tamper does there.
@@ -54,7 +54,7 @@ fn first_machine(machine: &Machine, tamper: &Tamper) -> Result<Machine, Memory>
 }
 
 /// The recording at step 0, with a checkpoint due after every `every` steps.
-pub fn begin(
+pub fn start_recording(
     alloc: Global,
     machine: &Machine,
     tamper: &Tamper,
@@ -70,14 +70,14 @@ pub fn begin(
     let mut versions = Vec::new(alloc);
     let mut checkpoints = Vec::new(alloc);
     add_checkpoint(0, &machine, &mut changed, &mut versions, &mut checkpoints)?;
-    let lately = none_lately(alloc)?;
+    let recent = no_recent_pages(alloc)?;
     Ok(Recording {
         machine,
         at: 0,
         left: every,
-        kept: Kept {
+        recorded: RecordedPages {
             changed,
-            lately,
+            recent,
             versions,
             checkpoints,
         },
@@ -85,42 +85,47 @@ pub fn begin(
 }
 
 /// Places at which no page is named.
-fn none_lately(alloc: Global) -> Result<Vec<u64>, Memory>
-    ensures places { IfOk result (λ lately. vec_len lately ≡ 256) }
-    ensures none { IfOk result (λ lately. (pages : List ℕ) → AreNoted lately.items pages) }
+fn no_recent_pages(alloc: Global) -> Result<Vec<Option<u32>>, Memory>
+    ensures places { IfOk result (λ recent. vec_len recent ≡ 256) }
+    ensures none { IfOk result (λ recent. (pages : List ℕ) → AreNoted recent.items pages) }
 {
-    Ok(vec![in alloc; 0u64; PLACES as usize]?)
+    Ok(vec![in alloc; None; RECENT_PLACES as usize]?)
 }
 
 /// No page is named at any place from now on.
-fn forget(lately: &mut Vec<u64>)
-    ensures places { vec_len lately.new ≡ vec_len lately.old }
-    ensures none { (pages : List ℕ) → AreNoted lately.new.items pages }
+fn forget_recent_pages(recent: &mut Vec<Option<u32>>)
+    ensures places { vec_len recent.new ≡ vec_len recent.old }
+    ensures none { (pages : List ℕ) → AreNoted recent.new.items pages }
 {
-    lately.fill(0);
+    recent.fill(None);
 }
 
 /// Notes a page that was written, if one is named, and no other. One that was noted lately isn't looked up among all.
-fn note(changed: &mut BTreeSet<u32>, lately: &mut Vec<u64>, page: Option<u32>) -> Result<(), Memory>
-    requires places { vec_len lately.old ≡ 256 }
-    requires noted { AreNoted lately.old.items changed.old.keys }
+fn note_changed_page(
+    changed: &mut BTreeSet<u32>,
+    recent: &mut Vec<Option<u32>>,
+    page: Option<u32>,
+) -> Result<(), Memory>
+    requires places { vec_len recent.old ≡ 256 }
+    requires noted { AreNoted recent.old.items changed.old.keys }
     ensures named { OnOk result ((p : ℕ) → has_page changed.new.keys p ≡ false → IsNamed p (page ∷ []) → ⊥) }
-    ensures kept { OnOk result ((p : ℕ) → has_page changed.new.keys p ≡ false → has_page changed.old.keys p ≡ false) }
+    ensures stays { OnOk result ((p : ℕ) → has_page changed.new.keys p ≡ false → has_page changed.old.keys p ≡ false) }
     ensures only { OnOk result ((p : ℕ) → has_page changed.new.keys p ≡ true → (has_page changed.old.keys p ≡ true) ⊎ IsNamed p (page ∷ [])) }
     ensures few { OnOk result (length changed.new.keys ≤ length changed.old.keys + count_named (page ∷ [])) }
     ensures pages { OnOk result (ArePages (page ∷ []) → AreBelow changed.old.keys → AreBelow changed.new.keys) }
-    ensures places { OnOk result (vec_len lately.new ≡ 256) }
-    ensures noted { OnOk result (AreNoted lately.new.items changed.new.keys) }
+    ensures places { OnOk result (vec_len recent.new ≡ 256) }
+    ensures noted { OnOk result (AreNoted recent.new.items changed.new.keys) }
 {
     match page {
         Some(page) => {
-            let place = (page % PLACES) as usize;
-            let entry = u64::from(page) + 1;
-            if lately[place] == entry {
+            let place = (page % RECENT_PLACES) as usize;
+            if let Some(noted) = recent[place]
+                && noted == page
+            {
                 return Ok(());
             }
             changed.insert(page)?;
-            lately[place] = entry;
+            recent[place] = Some(page);
             Ok(())
         }
         None => Ok(()),
@@ -129,47 +134,51 @@ fn note(changed: &mut BTreeSet<u32>, lately: &mut Vec<u64>, page: Option<u32>) -
 
 /// Takes the machine of a step to the next one, and notes the pages that were written.
 #[inline(always)]
-fn follow_noted<D: Digester>(
+fn step_noting_changes<D: Digester>(
     d: D,
     tamper: &Tamper,
     from: u64,
     machine: &mut Machine,
-    kept: &mut Kept,
+    recorded: &mut RecordedPages,
 ) -> Result<(), Memory>
     requires room { from + 1 < 2 ^ 64 }
-    requires kept { (first : State) × IsKeptTo D.digest_of tamper.now first from machine.old kept.old }
-    ensures kept { (first : State) → IsKeptTo D.digest_of tamper.now first from machine.old kept.old →
-        OnOk result (IsKeptTo D.digest_of tamper.now first (from + 1) machine.new kept.new) }
-    ensures checkpoints { OnOk result (kept.new.checkpoints.items ≡ kept.old.checkpoints.items) }
+    requires recorded { (first : State) × IsRecordedTo D.digest_of tamper.now first from machine.old recorded.old }
+    ensures recorded { (first : State) → IsRecordedTo D.digest_of tamper.now first from machine.old recorded.old →
+        OnOk result (IsRecordedTo D.digest_of tamper.now first (from + 1) machine.new recorded.new) }
+    ensures checkpoints { OnOk result (recorded.new.checkpoints.items ≡ recorded.old.checkpoints.items) }
 {
-    let pages = follow(d, tamper, from, machine)?;
-    note(&mut kept.changed, &mut kept.lately, pages[0])?;
-    note(&mut kept.changed, &mut kept.lately, pages[1])?;
+    let pages = step_tampered(d, tamper, from, machine)?;
+    note_changed_page(&mut recorded.changed, &mut recorded.recent, pages[0])?;
+    note_changed_page(&mut recorded.changed, &mut recorded.recent, pages[1])?;
     Ok(())
 }
 
 /// Keeps the checkpoint of a step with the state of a machine.
-fn keep(step: u64, machine: &Machine, kept: &mut Kept) -> Result<(), Memory>
-    requires pages { AreBelow kept.old.changed.keys }
-    requires shown { IsShownBut kept.old.versions.items kept.old.changed.keys machine.now.mem }
-    ensures kept { (digest : List ℕ → List ℕ) (tamper : Tamper) (first : State) (at : ℕ) → run_from tamper first step ≡ run_from tamper first at →
-        IsKeptTo digest tamper first at machine.now kept.old → OnOk result (IsKeptTo digest tamper first at machine.now kept.new) }
-    ensures pushed { OnOk result (IsPushed kept.old.checkpoints.items kept.new.checkpoints.items step) }
+fn record_checkpoint(
+    step: u64,
+    machine: &Machine,
+    recorded: &mut RecordedPages,
+) -> Result<(), Memory>
+    requires pages { AreBelow recorded.old.changed.keys }
+    requires shown { IsShownBut recorded.old.versions.items recorded.old.changed.keys machine.now.mem }
+    ensures recorded { (digest : List ℕ → List ℕ) (tamper : Tamper) (first : State) (at : ℕ) → run_from tamper first step ≡ run_from tamper first at →
+        IsRecordedTo digest tamper first at machine.now recorded.old → OnOk result (IsRecordedTo digest tamper first at machine.now recorded.new) }
+    ensures pushed { OnOk result (IsPushed recorded.old.checkpoints.items recorded.new.checkpoints.items step) }
 {
-    forget(&mut kept.lately);
+    forget_recent_pages(&mut recorded.recent);
     add_checkpoint(
         step,
         machine,
-        &mut kept.changed,
-        &mut kept.versions,
-        &mut kept.checkpoints,
+        &mut recorded.changed,
+        &mut recorded.versions,
+        &mut recorded.checkpoints,
     )?;
     Ok(())
 }
 
 /// Takes the recording to the next step.
 #[inline(always)]
-fn go_on<D: Digester>(
+fn record_step<D: Digester>(
     d: D,
     tamper: &Tamper,
     every: u32,
@@ -181,12 +190,12 @@ fn go_on<D: Digester>(
     ensures at { OnOk result (recording.new.at ≡ recording.old.at + 1) }
     ensures under_way { (first : State) → IsUnderWay D.digest_of tamper.now first every recording.old → OnOk result (IsUnderWay D.digest_of tamper.now first every recording.new) }
 {
-    follow_noted(
+    step_noting_changes(
         d,
         tamper,
         recording.at,
         &mut recording.machine,
-        &mut recording.kept,
+        &mut recording.recorded,
     )?;
     recording.at += 1;
     recording.left -= 1;
@@ -194,7 +203,7 @@ fn go_on<D: Digester>(
         return Ok(());
     }
     recording.left = every;
-    keep(recording.at, &recording.machine, &mut recording.kept)?;
+    record_checkpoint(recording.at, &recording.machine, &mut recording.recorded)?;
     Ok(())
 }
 
@@ -213,7 +222,7 @@ fn record_steps<D: Digester>(
     ensures { OnOk result (HasEnded D.digest_of tamper.now (state_of recording.old.machine) every bound recording.new) }
 {
     'steps: while recording.at < bound && !has_ended(tamper, recording.at, &recording.machine) {
-        go_on(d, tamper, every, recording)?;
+        record_step(d, tamper, every, recording)?;
     }
     Ok(())
 }
@@ -242,23 +251,28 @@ fn record_moves<D: Digester>(
 
 /// Keeps the state of a run that has ended, if its next checkpoint lies before the step of a tamper that is still to come. It is found
 /// for each checkpoint before that step, however many there are.
-fn keep_ended(due: u64, step: u64, machine: &Machine, kept: &mut Kept) -> Result<(), Memory>
-    requires pages { AreBelow kept.old.changed.keys }
-    requires shown { IsShownBut kept.old.versions.items kept.old.changed.keys machine.now.mem }
-    ensures kept { (digest : List ℕ → List ℕ) (tamper : Tamper) (first : State) (at : ℕ) → (due < step → run_from tamper first due ≡ run_from tamper first at) →
-        IsKeptTo digest tamper first at machine.now kept.old → OnOk result (IsKeptTo digest tamper first at machine.now kept.new) }
-    ensures pushed { due < step → OnOk result (IsPushed kept.old.checkpoints.items kept.new.checkpoints.items due) }
-    ensures same { step ≤ due → OnOk result (kept.new.checkpoints.items ≡ kept.old.checkpoints.items) }
+fn record_ended_state(
+    due: u64,
+    step: u64,
+    machine: &Machine,
+    recorded: &mut RecordedPages,
+) -> Result<(), Memory>
+    requires pages { AreBelow recorded.old.changed.keys }
+    requires shown { IsShownBut recorded.old.versions.items recorded.old.changed.keys machine.now.mem }
+    ensures recorded { (digest : List ℕ → List ℕ) (tamper : Tamper) (first : State) (at : ℕ) → (due < step → run_from tamper first due ≡ run_from tamper first at) →
+        IsRecordedTo digest tamper first at machine.now recorded.old → OnOk result (IsRecordedTo digest tamper first at machine.now recorded.new) }
+    ensures pushed { due < step → OnOk result (IsPushed recorded.old.checkpoints.items recorded.new.checkpoints.items due) }
+    ensures same { step ≤ due → OnOk result (recorded.new.checkpoints.items ≡ recorded.old.checkpoints.items) }
 {
     if due < step {
-        keep(due, machine, kept)?;
+        record_checkpoint(due, machine, recorded)?;
         return Ok(());
     }
     Ok(())
 }
 
 /// Takes a recording that has ended over the stretch in which nothing happens, at once, to the step of the tamper that is still to come.
-fn pass_over<D: Digester>(
+fn skip_stretch<D: Digester>(
     d: D,
     tamper: &Tamper,
     step: u64,
@@ -273,17 +287,17 @@ fn pass_over<D: Digester>(
 {
     stopped_states_stay();
     let due = recording.at + u64::from(recording.left);
-    keep_ended(due, step, &recording.machine, &mut recording.kept)?;
-    follow_noted(
+    record_ended_state(due, step, &recording.machine, &mut recording.recorded)?;
+    step_noting_changes(
         d,
         tamper,
         step - 1,
         &mut recording.machine,
-        &mut recording.kept,
+        &mut recording.recorded,
     )?;
     recording.at = step;
     if step % u64::from(every) == 0 {
-        keep(step, &recording.machine, &mut recording.kept)?;
+        record_checkpoint(step, &recording.machine, &mut recording.recorded)?;
         return Ok(());
     }
     Ok(())
@@ -291,7 +305,7 @@ fn pass_over<D: Digester>(
 
 /// Takes a recording that has ended to the step from which the run stands still: that of a tamper that is still to come, or else where it
 /// is.
-fn finish<D: Digester>(
+fn skip_to_tamper<D: Digester>(
     d: D,
     tamper: &Tamper,
     bound: u64,
@@ -303,7 +317,7 @@ fn finish<D: Digester>(
     ensures { (first : State) → HasEnded D.digest_of tamper.now first every bound recording.old → OnOk result (IsAtEnd D.digest_of tamper.now first every bound recording.new) }
 {
     match tamper_to_come(tamper, bound, recording.at) {
-        Some(step) => pass_over(d, tamper, step, every, recording),
+        Some(step) => skip_stretch(d, tamper, step, every, recording),
         None => Ok(()),
     }
 }
@@ -323,5 +337,5 @@ pub fn record_to_end<D: Digester>(
     ensures { OnOk result (IsAtEnd D.digest_of tamper.now (state_of recording.old.machine) every bound recording.new) }
 {
     record_moves(d, tamper, bound, every, recording)?;
-    finish(d, tamper, bound, every, recording)
+    skip_to_tamper(d, tamper, bound, every, recording)
 }

@@ -7,14 +7,15 @@ ghost use Rattle.checkpoint_run.specs.NamedPages.{IsNamed, ArePages};
 ghost use Rattle.checkpoint_run.specs.WrittenPages.{written_by};
 ghost use Rattle.checkpoint_run.specs.Recorded.{AreChained, state_of_step, still_of};
 
-use crate::checkpoint::{Checkpoint, PagePlaces, index_of, place_of, restored};
-use crate::recording::{Kept, Recording, begin, record_to_end};
-use crate::tampering::{follow, same_until};
+use crate::checkpoint::{Checkpoint, index_of, place_of, restored};
+use crate::recording::{RecordedPages, Recording, record_to_end, start_recording};
+use crate::tampering::{same_until, step_tampered};
 use crate::version::Version;
 use digest_core::Digester;
 use rd_base::{Memory, Tamper};
 use rv_step::{Machine, runs_keep_the_input, stopped_states_stay};
 use std::alloc::Global;
+use std::collections::BTreeMap;
 use std::marker::Model;
 
 /// A run of a prover up to a bound, kept as checkpoints.
@@ -31,7 +32,7 @@ pub struct Run {
     checkpoints: Vec<Checkpoint>,
     /// The versions of pages, those of an earlier checkpoint first, and the places of those of each page.
     versions: Vec<Version>,
-    index: PagePlaces,
+    index: BTreeMap<u32, Vec<usize>>,
     /// The whole output.
     output: Vec<u8>,
     /// The version of the machine, and the input that it keeps.
@@ -53,7 +54,7 @@ impl Model for Run {
     ghost view = { λ r. recorded_by r.tamper r.bound r.every r.checkpoints.items r.versions.items r.output.items r.version r.input.items };
 
     ghost invariant = { λ r. IsRecorded (recorded_by r.tamper r.bound r.every r.checkpoints.items r.versions.items r.output.items r.version r.input.items) r.still r.checkpoints.items r.versions.items r.output.items r.version r.input.items
-        × IsIndex r.index.places.entries r.index.pages.items (pages_of r.versions.items) (length r.versions.items) };
+        × IsIndex r.index.entries (pages_of r.versions.items) (length r.versions.items) };
 }
 
 impl Run {
@@ -125,19 +126,19 @@ pub fn record_run<D: Digester>(
 {
     stopped_states_stay();
     runs_keep_the_input();
-    let mut recording = begin(alloc, machine, &tamper, every)?;
+    let mut recording = start_recording(alloc, machine, &tamper, every)?;
     record_to_end(d, &tamper, bound, every, &mut recording)?;
     let Recording {
         machine: last,
         at,
-        kept,
+        recorded,
         ..
     } = recording;
-    let Kept {
+    let RecordedPages {
         versions,
         checkpoints,
         ..
-    } = kept;
+    } = recorded;
     let Machine {
         output,
         version,
@@ -171,13 +172,13 @@ pub fn machine_at(run: &Run, checkpoint: u64) -> Result<Machine, Memory>
     runs_keep_the_input();
     run.steps_have_64_bits();
     let place = place_of(&run.checkpoints, run.every, checkpoint);
-    let kept = &run.checkpoints[place];
-    let mem = restored(run.alloc, &run.versions, &run.index, kept.versions)?;
-    let output = Vec::from_slice(run.alloc, &run.output[..kept.ctl.out_len as usize])?;
+    let found = &run.checkpoints[place];
+    let mem = restored(run.alloc, &run.versions, &run.index, found.versions)?;
+    let output = Vec::from_slice(run.alloc, &run.output[..found.ctl.out_len as usize])?;
     let input = Vec::from_slice(run.alloc, &run.input)?;
     Ok(Machine {
-        regs: kept.regs,
-        ctl: kept.ctl,
+        regs: found.regs,
+        ctl: found.ctl,
         mem,
         output,
         version: run.version,
@@ -208,7 +209,7 @@ pub fn next<D: Digester>(
     ensures elsewhere { IfOk result (λ pages. (q : ℕ) → ¬ IsNamed (q / 4096) pages → byte_at machine.new.mem q ≡ byte_at machine.old.mem q) }
 {
     run.steps_have_64_bits();
-    let pages = follow(d, &run.tamper, *at, machine)?;
+    let pages = step_tampered(d, &run.tamper, *at, machine)?;
     *at += 1;
     Ok(pages)
 }
@@ -238,7 +239,7 @@ pub fn advance<D: Digester>(
     ensures elsewhere { IfOk result (λ pages. (q : ℕ) → ¬ IsNamed (q / 4096) pages → byte_at machine.new.mem q ≡ byte_at machine.old.mem q) }
 {
     let from = same_until(&run.tamper, goal, *at, machine);
-    let pages = follow(d, &run.tamper, from, machine)?;
+    let pages = step_tampered(d, &run.tamper, from, machine)?;
     *at = from + 1;
     Ok(pages)
 }

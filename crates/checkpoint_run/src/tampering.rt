@@ -118,7 +118,7 @@ fn step_from<D: Digester>(
 /// Takes the machine of step `i` to the next one. The result is the pages that were written: that of the step's store, and then
 /// that of a byte that is flipped.
 #[inline(always)]
-pub fn follow<D: Digester>(
+pub fn step_tampered<D: Digester>(
     d: D,
     tamper: &Tamper,
     i: u64,

@@ -3,4 +3,4 @@ use Rattle.checkpoint_run.specs.Places.{IsIndex}
 use Rattle.checkpoint_run.proofs.checkpoint.index_of.Given as goal
 
 abbrev pub invariant-versions : goal.invariant-versions
-invariant-versions l = IsIndex l.index.places.entries l.index.pages.items (pages_of l.versions) l.place
+invariant-versions l = IsIndex l.index.entries (pages_of l.versions) l.place

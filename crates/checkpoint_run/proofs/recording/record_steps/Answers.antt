@@ -20,11 +20,11 @@ steps-preserved g c =
     let inv = c.steps.invariant in
     let tamper = c.args.tamper.now in
     let first : State = state_of c.args.recording.now.machine in
-    let at = c.in_ok-go_on.ensures.at in
-    let here : ended tamper r.at (run_from tamper first r.at) ≡ false = sym (c.if-not-has_ended.ensures ∙ ap (ended tamper r.at) inv.under_way.kept.state) in
+    let at = c.in_ok-record_step.ensures.at in
+    let here : ended tamper r.at (run_from tamper first r.at) ≡ false = sym (c.if-not-has_ended.ensures ∙ ap (ended tamper r.at) inv.under_way.recorded.state) in
     record {
       within = omega (arith, at, c.steps-test.true);
-      under_way = c.in_ok-go_on.ensures.under_way first inv.under_way;
+      under_way = c.in_ok-record_step.ensures.under_way first inv.under_way;
       before = λ k early. ⊎_elim
           (λ earlier. inv.before k earlier)
           (λ late. let last : k ≡ r.at = omega (arith, at, early) in ap (λ n. ended tamper n (run_from tamper first n)) last ∙ here)
@@ -39,7 +39,7 @@ returns-else-not-has_ended g c =
       under_way = inv.under_way;
       within = inv.within;
       before = inv.before;
-      ends = inl (sym (c.if-not-has_ended.ensures ∙ ap (ended c.args.tamper.now r.at) inv.under_way.kept.state));
+      ends = inl (sym (c.if-not-has_ended.ensures ∙ ap (ended c.args.tamper.now r.at) inv.under_way.recorded.state));
     }
 
 pub returns-after-steps : goal.returns-after-steps

@@ -8,11 +8,11 @@ use Rattle.checkpoint_run.specs.Keeping.{AllStand}
 use Rattle.checkpoint_run.specs.declared.version.Version.{Version}
 use Rattle.checkpoint_run.proofs.RecordLemmas.{all_stand_on, all_stand_added, all_chained_added, at_first_on}
 use Rattle.checkpoint_run.proofs.VersionLemmas.{length_added}
-use Rattle.checkpoint_run.proofs.recording.keep.Goals as goal
+use Rattle.checkpoint_run.proofs.recording.record_checkpoint.Goals as goal
 
-pub returns-clause-kept : goal.returns-clause-kept
-returns-clause-kept c digest tamper first at same k =
-    let old = c.args.kept.now in
+pub returns-clause-recorded : goal.returns-clause-recorded
+returns-clause-recorded c digest tamper first at same k =
+    let old = c.args.recorded.now in
     let e = c.in_ok-add_checkpoint.ensures in
     let m = c.args.machine.now in
     let run : ℕ → State = run_from tamper first in
@@ -30,8 +30,8 @@ returns-clause-kept c digest tamper first at same k =
       some = omega arith;
       pages = subst AreBelow (sym e.none) (λ p among. absurd (search (arith, rules, among)));
       shown = subst (λ pages. IsShownBut versions pages m.mem) (sym e.none) e.shown;
-      places = c.forget.ensures.places ∙ k.places;
-      noted = c.forget.ensures.none c.add_checkpoint.new.changed.keys;
+      places = c.forget_recent_pages.ensures.places ∙ k.places;
+      noted = c.forget_recent_pages.ensures.none c.add_checkpoint.new.changed.keys;
       few =
           let len = length_added old.versions.items versions old.changed.keys e.one in
           let none = ap length e.none in

@@ -2,7 +2,7 @@ use Rattle.std.proofs.Common.{◌≡◌, ℕ, Option, ◌∷◌, [], inl, inr, r
 use Rattle.std.proofs.lemmas.Bool.{cases_eq}
 use Rattle.checkpoint_run.specs.NamedPages.{IsNamed}
 use Rattle.checkpoint_run.proofs.VersionLemmas.{added_below, added_elsewhere}
-use Rattle.checkpoint_run.proofs.recording.note.Goals as goal
+use Rattle.checkpoint_run.proofs.recording.note_changed_page.Goals as goal
 
 pub returns-in_ok-insert-in-Some-clause-pages : goal.returns-in_ok-insert-in-Some-clause-pages
 returns-in_ok-insert-in-Some-clause-pages c pages below =
