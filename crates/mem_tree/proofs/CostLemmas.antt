@@ -1,11 +1,9 @@
 -- How many digests a page takes.
-use Rattle.std.proofs.Common.{◌≡◌, ◌≢◌, ℕ, zero, suc, ◌+◌, ◌^◌, ◌<◌, ◌≤◌, List, Option, Bool, true, false, true≢false, ◌&&◌, not, cond, refl, sym, ap, ◌∙◌, arith}
+use Rattle.std.proofs.Common.{◌≡◌, ◌≢◌, ℕ, zero, suc, ◌+◌, ◌^◌, ◌<◌, List, Bool, true, false, true≢false, not, cond, refl, sym, ap, ◌∙◌, arith}
 use Rattle.std.specs.Prelude.{bytes_eq}
 use Rattle.std.proofs.lemmas.Slice.Eq.{bytes_eq-Decides}
-use Rattle.mem_plain.specs.Contents.{Contents}
-use Rattle.merkle_nodes.specs.Renewals.{how_many, is_changed, renewals}
+use Rattle.merkle_nodes.specs.Renewals.{how_many, is_changed}
 use Rattle.mem_tree.specs.Costs.{are_different}
-use Rattle.mem_tree.specs.declared.kept.PageTree.{PageTree}
 
 pub many-same : (f h : ℕ → Bool) (n : ℕ) → ((k : ℕ) → k < n → f k ≡ h k) → how_many f n ≡ how_many h n
 unfolding how_many

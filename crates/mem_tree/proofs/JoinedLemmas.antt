@@ -1,5 +1,5 @@
 -- One page of a tree, and the nodes above it, are written.
-use Rattle.std.proofs.Common.{◌≡◌, ◌≢◌, ◌⊎◌, inl, inr, ℕ, ◌+◌, ◌*◌, ◌/◌, ◌^◌, ◌<◌, List, [], None, true, false, true≢false, is_some, refl, sym, ap, ◌∙◌, subst, arith, ⊎_elim}
+use Rattle.std.proofs.Common.{◌≡◌, ◌≢◌, ◌⊎◌, inl, inr, ℕ, ◌+◌, ◌*◌, ◌/◌, ◌^◌, ◌<◌, List, [], None, true, false, true≢false, refl, sym, ap, ◌∙◌, subst, arith, ⊎_elim}
 use Rattle.std.specs.Ordering.{nat_cmp}
 use Rattle.std.specs.Map.{lookup}
 use Rattle.std.specs.BTreeMap.{is_at}
@@ -8,7 +8,7 @@ use Rattle.std.proofs.lemmas.Bool.{cases_eq}
 use Rattle.mem_plain.specs.Contents.{Contents, has_page}
 use Rattle.rd_base.specs.declared.digest.Digest32.{Digest32}
 use Rattle.merkle_nodes.specs.Node.{digest_at}
-use Rattle.mem_tree.specs.Page.{AreEmpty, IsMadeTree, heap_node}
+use Rattle.mem_tree.specs.Page.{AreEmpty, IsMadeTree}
 use Rattle.mem_tree.specs.Tree.{Kept, kept_of, AllMade, IsJoinedAbove, IsJoinedBut, IsOver, IsRoot, by_place, page_at, upper_at}
 use Rattle.mem_tree.specs.declared.kept.PageTree.{PageTree}
 use Rattle.mem_tree.specs.declared.kept.Nodes.{Nodes}

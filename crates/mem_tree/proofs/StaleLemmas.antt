@@ -1,12 +1,15 @@
 -- Touched pages are renewed one by one, and the nodes above them are left for later.
-use Rattle.std.proofs.Common.{◌≡◌, ◌≢◌, ◌⊎◌, inl, inr, ℕ, ◌+◌, ◌-◌, ◌*◌, ◌/◌, ◌^◌, ◌<◌, ◌≤◌, List, [], ◌∷◌, ◌++◌, true, false, true≢false, refl, sym, ap, ◌∙◌, subst, arith, ⊎_elim}
+use Rattle.std.proofs.Common.{◌≡◌, ◌≢◌, ◌⊎◌, inl, inr, ℕ, ◌+◌, ◌-◌, ◌*◌, ◌/◌, ◌^◌, ◌<◌, List, [], ◌∷◌, ◌++◌, Option, true, false, true≢false, refl, sym, ap, ◌∙◌, subst, arith, ⊎_elim}
 use Rattle.std.proofs.Math.Nat.{div-one}
 use Rattle.std.proofs.lemmas.Bool.{cases_eq, cases_Bool}
-use Rattle.mem_plain.specs.Contents.{has_page}
+use Rattle.mem_plain.specs.Contents.{Contents, has_page}
 use Rattle.merkle_nodes.specs.Node.{digest_at}
 use Rattle.mem_tree.specs.Tree.{Kept, IsJoinedAbove, IsJoinedBut, IsRoot, page_at, upper_at}
+use Rattle.mem_tree.specs.Costs.{changed_chunks, page_changes}
 use Rattle.mem_tree.specs.Levels.{IsJoinedFrom, IsJoinedOver}
-use Rattle.mem_tree.proofs.AmongLemmas.{among-last, among-front, among-but_last}
+use Rattle.mem_tree.specs.declared.kept.PageTree.{PageTree}
+use Rattle.mem_tree.proofs.AmongLemmas.{among-head, among-last, among-front, among-but_last}
+use Rattle.mem_tree.proofs.JoinedLemmas.{stays-joined}
 use Rattle.mem_tree.proofs.MemoryLemmas.{up-one}
 use Rattle.mem_tree.proofs.UpperLemmas.{of-two}
 
@@ -84,6 +87,24 @@ module _ (digest : List ℕ → List ℕ) (t t' : Kept) (page : ℕ) (empties : 
       (λ zero'. upper_kept n k (⊎_elim (λ high. absurd (omega (arith, high, zero'))) (λ other. inr (λ e. other (e ∙ (sym (div-one page) ∙ ap (λ m. page / 2 ^ m) (sym zero'))))) apart))
       (λ some. upper_kept n k (inl some))
       (cases_eq n 0)
+
+  -- what is written at the first of the touched pages that are left isn't seen
+  module _ (left rest keys : List ℕ) (step : left ≡ page ∷ rest) (among : (p : ℕ) → has_page left p ≡ true → has_page keys p ≡ true) where
+    is-touched : has_page keys page ≡ true
+    is-touched = among page (subst (λ l. has_page l page ≡ true) (sym step) (among-head page rest))
+
+    pub others-stay : (first : Kept) → ((p : ℕ) → has_page keys p ≡ false → page_at t p ≡ page_at first p) → (p : ℕ) → has_page keys p ≡ false → page_at t' p ≡ page_at first p
+    others-stay first others p not = pages_kept p (λ e. true≢false (sym is-touched ∙ (ap (has_page keys) (sym e) ∙ not))) ∙ others p not
+
+    pub joined-stays : IsJoinedBut digest t keys → IsJoinedBut digest t' keys
+    joined-stays is = stays-joined digest t t' page empties pages_kept aside keys is is-touched
+
+-- the chunks that differ in the touched pages that are left
+pub changes-left : (first t : Kept) (m : Contents) (page : ℕ) (left rest : List ℕ) → left ≡ page ∷ rest → ((p : ℕ) → has_page left p ≡ true → page_at t p ≡ page_at first p)
+    → changed_chunks first m left ≡ page_changes (page_at t page) m page + changed_chunks first m rest
+changes-left first t m page left rest step same =
+    ap (changed_chunks first m) step
+    ∙ ap (λ (o : Option PageTree). page_changes o m page + changed_chunks first m rest) (sym (same page (subst (λ l. has_page l page ≡ true) (sym step) (among-head page rest))))
 
 -- nodes above none of some pages stay, and so do pages
 pub stays-over : (digest : List ℕ → List ℕ) (t t' : Kept) (keys stale : List ℕ) → t'.empties ≡ t.empties → ((p : ℕ) → page_at t' p ≡ page_at t p)

@@ -5,8 +5,8 @@ ghost use Rattle.mem_plain.specs.Contents.{IsUsed, no_bytes, has_page};
 ghost use Rattle.mem_tree.specs.Page.{AreEmpty, IsPageOf, IsPageTree};
 ghost use Rattle.mem_tree.specs.Tree.{kept_of, page_at, AllMade, IsJoinedBut};
 
-use crate::kept::{Nodes, PageTree, Renewed};
-use crate::page::{PageOf, page_tree_after};
+use crate::kept::{Nodes, PageTree};
+use crate::page::{CHUNK_BYTES, PageOf, new_page_tree};
 use digest_core::{Counted, Digester, leaf_text};
 use mem_plain::PlainMem;
 use merkle_nodes::fill_empty_nodes;
@@ -32,26 +32,30 @@ fn used_pages(alloc: Global, mem: &PlainMem) -> Result<Vec<u32>, Memory>
     Ok(pages)
 }
 
-/// What `page_tree_after` gives for a page of which nothing was kept, with a counter of its own.
+/// The subtree of a page, or none if every byte of the page is 0, with a counter of its own.
 fn counted_page_tree<C: Counted, L: Ledger>(
     c: C,
     alloc: Global,
     empties: &[Digest32],
     of: &PageOf<'_>,
     blank: Blank,
-) -> Result<Renewed, Memory>
+) -> Result<Option<PageTree>, Memory>
     requires name { blank.name ≡ L.name }
     requires parts { blank.parts ≡ L.parts }
     requires one { L.parts ≡ 1 }
     requires levels { length empties.now ≡ 28 }
     requires empty { AreEmpty C.digest_of empties.now }
-    ensures { IfOk result (λ r. IsPageTree C.digest_of r.tree of.now.mem.now of.now.page) }
+    ensures { IfOk result (λ tree. IsPageTree C.digest_of tree of.now.mem.now of.now.page) }
 {
     let mut steps = Steps::<L>::new(blank);
-    page_tree_after(c, alloc, empties, None, of, &mut steps)
+    if !of.mem.is_used(of.page) {
+        return Ok(None);
+    }
+    let tree = new_page_tree(c, alloc, empties, of, &mut steps)?;
+    Ok(Some(tree))
 }
 
-/// The subtree of a page, uncounted.
+/// The subtree of a page, or none if every byte of the page is 0, uncounted.
 fn plain_page_tree<D: Digester>(
     d: D,
     alloc: Global,
@@ -62,8 +66,7 @@ fn plain_page_tree<D: Digester>(
     requires empty { AreEmpty D.digest_of empties.now }
     ensures { IfOk result (λ tree. IsPageTree D.digest_of tree of.now.mem.now of.now.page) }
 {
-    let renewed = counted_page_tree::<D, Brand>(d, alloc, empties, of, Blank::new(1))?;
-    Ok(renewed.tree)
+    counted_page_tree::<D, Brand>(d, alloc, empties, of, Blank::new(1))
 }
 
 /// The subtrees of pages, in their order, computed side by side. An `Err`, of all or of one subtree, is out of memory.
@@ -101,7 +104,7 @@ fn no_nodes<D: Digester>(alloc: Global, d: D) -> Nodes
     ensures empty { AreEmpty D.digest_of result.empties }
 {
     let mut empties = [Digest32::ZERO; 28];
-    fill_empty_nodes(d, &leaf_text(&[0; 32]), &mut empties);
+    fill_empty_nodes(d, &leaf_text(&[0; CHUNK_BYTES]), &mut empties);
     Nodes {
         pages: BTreeMap::new(alloc),
         upper: BTreeMap::new(alloc),

@@ -5,6 +5,7 @@ ghost use Rattle.merkle_nodes.specs.Node.{digest_at};
 ghost use Rattle.merkle_nodes.specs.Heap.{HasLeaves, IsHeap, is_marked};
 ghost use Rattle.mem_tree.specs.InputTree.{input_chunk, input_leaf, IsInputTree};
 
+use crate::page::CHUNK_BYTES;
 use digest_core::{Counted, Digester, leaf_text};
 use merkle_nodes::{
     fill_empty_heap, fill_empty_nodes, fill_heap_path, heaps_are_trees, renew_nodes,
@@ -14,11 +15,8 @@ use std::alloc::Global;
 use std::marker::{Brand, Model};
 use std::sync::ledger::{Blank, Ledger};
 
-/// How many bytes a chunk has.
-const CHUNK_BYTES: usize = 32;
-
 /// How many chunks an input has, and so how many leaves.
-const CHUNKS: usize = 32_768;
+pub(crate) const CHUNKS: usize = 32_768;
 
 /// How many places the heap has; the first is not used.
 const HEAP_PLACES: usize = 65_536;
@@ -39,7 +37,7 @@ pub fn input_chunk(input: &[u8], k: usize) -> [u8; 32]
     ensures { result ≡ input_chunk input.now k }
 {
     let mut chunk = [0; CHUNK_BYTES];
-    'bytes: for i in 0..32usize {
+    'bytes: for i in 0..CHUNK_BYTES {
         chunk[i] = byte_or_zero(input, CHUNK_BYTES * k + i);
     }
     chunk

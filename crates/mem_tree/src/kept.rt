@@ -14,10 +14,11 @@ pub struct PageTree {
     ghost parts: { vec_len chunks ≡ 128 },
 }
 
-/// The subtree of a page, none if every byte of the page is 0, and whether some chunk differs from what was kept before.
+/// What came of a page that was made that of a memory: the root of its subtree, none if every byte of the page is 0, and whether some
+/// chunk differs from what was kept before.
 #[derive(Drop)]
 pub struct Renewed {
-    pub tree: Option<PageTree>,
+    pub root: Option<Digest32>,
     pub changed: bool,
 }
 

@@ -1,15 +1,16 @@
 //! The nodes of a tree that are kept, and how they are brought up to a memory.
-ghost use Rattle.std.specs.Prelude.{◌≡◌, ◌≢◌, ◌⊎◌, ◌+◌, ◌-◌, ◌*◌, ◌/◌, ◌≤◌, ◌<◌, ◌^◌, ◌||◌, ◌++◌, ◌∷◌, ℕ, List, [], length, IfOk, OnOk, OnErr, None, is_some, false, true};
+ghost use Rattle.std.specs.Prelude.{◌≡◌, ◌≢◌, ◌⊎◌, ◌+◌, ◌-◌, ◌*◌, ◌/◌, ◌≤◌, ◌<◌, ◌^◌, ◌||◌, ◌++◌, ◌∷◌, ℕ, List, [], length, IfOk, IfSome, IfNone, OnOk, OnErr, None, is_some, false, true};
 ghost use Rattle.digest_core.specs.Text.{node_text as node_string};
-ghost use Rattle.mem_plain.specs.Contents.{has_page};
+ghost use Rattle.mem_plain.specs.Contents.{IsUsed, has_page};
 ghost use Rattle.merkle_nodes.specs.Node.{digest_at};
 ghost use Rattle.mem_tree.specs.Page.{AreEmpty, IsMadeTree, IsPageOf, kept_or};
 ghost use Rattle.mem_tree.specs.Tree.{kept_of, page_at, page_node as node_in_page, upper_at, upper_node as node_above, AllMade, IsJoinedBut, IsRoot};
+ghost use Rattle.mem_tree.specs.Renewed.{IsRenewed};
 ghost use Rattle.mem_tree.specs.Costs.{changed_chunks, has_changed, kept_above, page_changes, page_digests, page_renewals, stale_pages};
 ghost use Rattle.mem_tree.specs.Levels.{IsJoinedFrom, as_number};
 
-use crate::kept::{Nodes, PageTree};
-use crate::page::{PageOf, page_tree_after, root_of};
+use crate::kept::{Nodes, PageTree, Renewed};
+use crate::page::{PageOf, new_page_tree, renew, root_of, tree_root};
 use digest_core::{Counted, node_text};
 use mem_plain::PlainMem;
 use merkle_nodes::renewals_are_few;
@@ -197,6 +198,80 @@ impl Nodes {
         Ok(())
     }
 
+    /// Makes the subtree of a page in use that of a memory, in its place, if one is kept, with a step for each changed chunk and each node
+    /// above one; `None`, with no step, if none is kept.
+    fn renew_kept<C: Counted, L: Ledger>(
+        &mut self,
+        c: C,
+        of: &PageOf<'_>,
+        steps: &mut Steps<L>,
+    ) -> Option<Renewed>
+        requires made { AllMade C.digest_of (kept_of self.old) }
+        requires used { IsUsed of.now.mem.now of.now.page }
+        ensures renewed { IfSome result (λ r. IsRenewed C.digest_of (page_at (kept_of self.old) of.now.page) (page_at (kept_of self.new) of.now.page) r of.now.mem.now of.now.page) }
+        ensures none { IfNone result (page_at (kept_of self.old) of.now.page ≡ None) }
+        ensures stays { IfNone result (self.new.pages ≡ self.old.pages) }
+        ensures elsewhere { (p : ℕ) → p ≢ of.now.page → page_at (kept_of self.new) p ≡ page_at (kept_of self.old) p }
+        ensures upper { self.new.upper ≡ self.old.upper }
+        ensures empties { self.new.empties ≡ self.old.empties }
+        ensures exactly { IfSome result (λ r. steps.new ≡ steps.old + page_renewals (page_at (kept_of self.old) of.now.page) of.now.mem.now of.now.page) }
+        ensures uncounted { IfNone result (steps.new ≡ steps.old) }
+    {
+        renewals_are_few();
+        match self.pages.get_mut(&of.page) {
+            Some(tree) => {
+                let changed = renew(c, tree, of, steps);
+                Some(Renewed {
+                    root: Some(tree_root(tree)),
+                    changed,
+                })
+            }
+            None => None,
+        }
+    }
+
+    /// Makes the subtree of a page that of a memory, with a step for each changed chunk and each node above one, if the page isn't empty. One
+    /// that is kept is changed in its place. An `Err` is out of memory, and comes only if none was kept: none is then.
+    fn renew_tree<C: Counted, L: Ledger>(
+        &mut self,
+        c: C,
+        alloc: Global,
+        of: &PageOf<'_>,
+        steps: &mut Steps<L>,
+    ) -> Result<Renewed, Memory>
+        requires empty { AreEmpty C.digest_of self.old.empties }
+        requires made { AllMade C.digest_of (kept_of self.old) }
+        ensures renewed { IfOk result (λ r. IsRenewed C.digest_of (page_at (kept_of self.old) of.now.page) (page_at (kept_of self.new) of.now.page) r of.now.mem.now of.now.page) }
+        ensures err { OnErr result (page_at (kept_of self.new) of.now.page ≡ page_at (kept_of self.old) of.now.page) }
+        ensures elsewhere { (p : ℕ) → p ≢ of.now.page → page_at (kept_of self.new) p ≡ page_at (kept_of self.old) p }
+        ensures upper { self.new.upper ≡ self.old.upper }
+        ensures empties { self.new.empties ≡ self.old.empties }
+        ensures exactly { OnOk result (steps.new ≡ steps.old + page_renewals (page_at (kept_of self.old) of.now.page) of.now.mem.now of.now.page) }
+        ensures within { steps.new ≤ steps.old + page_renewals (page_at (kept_of self.old) of.now.page) of.now.mem.now of.now.page }
+        ensures more { steps.old ≤ steps.new }
+    {
+        renewals_are_few();
+        if !of.mem.is_used(of.page) {
+            let before = self.take_page(of.page);
+            return Ok(Renewed {
+                root: None,
+                changed: before.is_some(),
+            });
+        }
+        match self.renew_kept(c, of, steps) {
+            Some(renewed) => Ok(renewed),
+            None => {
+                let tree = new_page_tree(c, alloc, &self.empties, of, steps)?;
+                let root = tree_root(&tree);
+                self.put_page(of.page, Some(tree))?;
+                Ok(Renewed {
+                    root: Some(root),
+                    changed: true,
+                })
+            }
+        }
+    }
+
     /// Makes a page that of a memory, and puts its root into its place, with a step for each digest; a page that hasn't changed takes none.
     /// The result is whether the nodes above it are to be joined anew: if the page has changed, or an earlier refresh failed. An `Err` is
     /// out of memory, and leaves all nodes but the page's.
@@ -226,13 +301,11 @@ impl Nodes {
         ensures more { steps.old ≤ steps.new }
     {
         renewals_are_few();
-        let before = self.take_page(of.page);
-        let renewed = page_tree_after(c, alloc, &self.empties, before, of, steps)?;
+        let renewed = self.renew_tree(c, alloc, of, steps)?;
         if renewed.changed || failed {
-            self.set_page(c, of.page, renewed.tree)?;
+            self.put_upper(0, of.page, renewed.root)?;
             return Ok(true);
         }
-        self.put_page(of.page, renewed.tree)?;
         Ok(false)
     }
 

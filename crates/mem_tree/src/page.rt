@@ -1,19 +1,23 @@
 //! The subtree of a page.
-ghost use Rattle.std.specs.Prelude.{◌≡◌, ◌↔◌, ◌+◌, ◌<◌, ◌^◌, ℕ, List, Some, length, vec_len, is_some, false, IfOk, OnErr, OnOk, IsTrue};
+ghost use Rattle.std.specs.Prelude.{◌≡◌, ◌↔◌, ◌+◌, ◌<◌, ◌^◌, ℕ, List, Some, None, length, vec_len, false, IfOk, OnErr, OnOk, IsTrue};
+ghost use Rattle.mem_plain.specs.Contents.{IsUsed};
 ghost use Rattle.merkle_nodes.specs.Node.{digest_at};
 ghost use Rattle.merkle_nodes.specs.Heap.{HasLeaves, IsHeap, is_marked};
 ghost use Rattle.merkle_nodes.specs.Renewals.{how_many, is_changed, renewals};
-ghost use Rattle.mem_tree.specs.Page.{AreEmpty, IsMadeTree, IsPageTree, chunk_in, heap_node, leaf_of, page_chunk, zero_chunks};
+ghost use Rattle.mem_tree.specs.Page.{AreEmpty, IsPageTree, chunk_in, leaf_of, page_chunk, zero_chunks};
 ghost use Rattle.mem_tree.specs.Tree.{IsRoot};
 ghost use Rattle.mem_tree.specs.Costs.{are_different, differs, has_changed, page_renewals};
 
-use crate::kept::{PageTree, Renewed};
+use crate::kept::PageTree;
 use digest_core::{Counted, leaf_text};
 use mem_plain::PlainMem;
 use merkle_nodes::{fill_empty_heap, renew_nodes, renewals_are_few, renewals_are_marked};
 use rd_base::{Digest32, Memory, Steps};
 use std::alloc::Global;
 use std::sync::ledger::Ledger;
+
+/// How many bytes a chunk has.
+pub(crate) const CHUNK_BYTES: usize = 32;
 
 /// How many chunks a page has.
 const PAGE_CHUNKS: usize = 128;
@@ -37,7 +41,7 @@ fn chunk_of(of: &PageOf<'_>, j: usize) -> [u8; 32]
     requires { j < 128 }
     ensures { result ≡ page_chunk of.now.mem.now of.now.page j }
 {
-    of.mem.chunk(128 * of.page + j as u32)
+    of.mem.chunk(PAGE_CHUNKS as u32 * of.page + j as u32)
 }
 
 /// Whether two chunks have the same bytes.
@@ -111,7 +115,7 @@ fn renew_heap<C: Counted, L: Ledger>(
 
 /// Makes a subtree that of a page, with a step for each changed chunk and each node above one. The result is whether some chunk has
 /// changed.
-fn renew<C: Counted, L: Ledger>(
+pub(crate) fn renew<C: Counted, L: Ledger>(
     c: C,
     tree: &mut PageTree,
     of: &PageOf<'_>,
@@ -134,7 +138,7 @@ fn no_bytes(alloc: Global) -> Result<Vec<[u8; 32]>, Memory>
 {
     let mut chunks = Vec::with_capacity(alloc, PAGE_CHUNKS)?;
     'chunks: for _k in 0..PAGE_CHUNKS {
-        chunks.push([0; 32])?;
+        chunks.push([0; CHUNK_BYTES])?;
     }
     Ok(chunks)
 }
@@ -152,52 +156,33 @@ fn zeros(alloc: Global, empties: &[Digest32]) -> Result<PageTree, Memory>
     Ok(PageTree { nodes, chunks })
 }
 
-/// The subtree of a page from the one that was kept, or none if every byte of the page is 0, and whether some chunk differs
-/// from what was kept; with a step for each changed chunk and each node above one, if the page isn't empty. An `Err` is out of
-/// memory, and comes only if none was kept.
-pub(crate) fn page_tree_after<C: Counted, L: Ledger>(
+/// The subtree of a page in use of which nothing was kept, with a step for each chunk that isn't of zeros and each node above one. An
+/// `Err` is out of memory, and comes before the first step.
+pub(crate) fn new_page_tree<C: Counted, L: Ledger>(
     c: C,
     alloc: Global,
     empties: &[Digest32],
-    before: Option<PageTree>,
     of: &PageOf<'_>,
     steps: &mut Steps<L>,
-) -> Result<Renewed, Memory>
+) -> Result<PageTree, Memory>
     requires levels { length empties.now ≡ 28 }
     requires empty { AreEmpty C.digest_of empties.now }
-    requires made { IsMadeTree C.digest_of before }
-    ensures tree { IfOk result (λ r. IsPageTree C.digest_of r.tree of.now.mem.now of.now.page) }
-    ensures changed { IfOk result (λ r. r.changed ≡ has_changed before of.now.mem.now of.now.page) }
-    ensures same { IfOk result (λ r. r.changed ≡ false → (empty : List ℕ) → heap_node r.tree 1 empty ≡ heap_node before 1 empty) }
-    ensures there { IfOk result (λ r. r.changed ≡ false → is_some r.tree ≡ is_some before) }
-    ensures steps { OnOk result (steps.new ≡ steps.old + page_renewals before of.now.mem.now of.now.page) }
+    requires used { IsUsed of.now.mem.now of.now.page }
+    ensures tree { IfOk result (λ tree. IsPageTree C.digest_of (Some tree) of.now.mem.now of.now.page) }
+    ensures steps { OnOk result (steps.new ≡ steps.old + page_renewals None of.now.mem.now of.now.page) }
     ensures none { OnErr result (steps.new ≡ steps.old) }
-    ensures fresh { OnErr result (is_some before ≡ false) }
 {
     renewals_are_few();
-    if !of.mem.is_used(of.page) {
-        return Ok(Renewed {
-            tree: None,
-            changed: before.is_some(),
-        });
-    }
-    match before {
-        Some(mut tree) => {
-            let changed = renew(c, &mut tree, of, steps);
-            Ok(Renewed {
-                tree: Some(tree),
-                changed,
-            })
-        }
-        None => {
-            let mut tree = zeros(alloc, empties)?;
-            let changed = renew(c, &mut tree, of, steps);
-            Ok(Renewed {
-                tree: Some(tree),
-                changed,
-            })
-        }
-    }
+    let mut tree = zeros(alloc, empties)?;
+    renew(c, &mut tree, of, steps);
+    Ok(tree)
+}
+
+/// The root of a page's subtree.
+pub(crate) fn tree_root(tree: &PageTree) -> Digest32
+    ensures { result.0 ≡ digest_at tree.now.nodes.items 1 }
+{
+    tree.nodes[1]
 }
 
 /// The root of a page's subtree, if the subtree is kept.
@@ -205,7 +190,7 @@ pub(crate) fn root_of(tree: &Option<PageTree>) -> Option<Digest32>
     ensures { IsRoot result tree.now }
 {
     match tree {
-        Some(tree) => Some(tree.nodes[1]),
+        Some(tree) => Some(tree_root(tree)),
         None => None,
     }
 }

@@ -76,7 +76,7 @@ fn renew_leaves<C: Counted, L: Ledger>(
     ensures marks { (r : ℕ) → r < 32 → is_marked marks.new (32 + r) ≡ differs change.now.before.now change.now.after.now r }
     ensures steps { steps.new ≡ steps.old + how_many (λ r. is_marked marks.new (32 + r)) 32 }
 {
-    'registers: for reg in 0..32u8 {
+    'registers: for reg in 0..REGISTERS as u8 {
         if has_changed(change, reg) {
             let leaf = c.digest(&register_text(change.after.get(reg)), steps);
             nodes[REGISTERS + reg as usize] = leaf;

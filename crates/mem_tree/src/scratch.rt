@@ -4,13 +4,17 @@ ghost use Rattle.digest_core.specs.Text.{leaf_text as text_of_leaf};
 ghost use Rattle.merkle_nodes.specs.Node.{digest_at, empty_node};
 ghost use Rattle.mem_tree.specs.InputTree as tree;
 
-use crate::input_tree::input_chunk;
+use crate::input_tree::{CHUNKS, input_chunk};
+use crate::page::CHUNK_BYTES;
 use digest_core::{Digester, leaf_text, node_text};
 use merkle_nodes::{fill_empty_nodes, node_equations, nodes_over_one_string_are_empty};
 use rd_base::Digest32;
 
 /// How many levels of nodes the tree of an input has, the leaves' and the root's included.
 const LEVELS: usize = 16;
+
+/// The level of the root.
+const ROOT_LEVEL: u8 = 15;
 
 /// What the nodes of an input are made of: the digester, the input, and the empty node of each level.
 #[derive(Drop)]
@@ -32,7 +36,7 @@ fn part<D: Digester>(of: &Source<'_, D>, level: u8, width: u32, k: u32) -> Diges
 {
     node_equations();
     nodes_over_one_string_are_empty();
-    if of.input.len() <= 32 * (k * width) as usize {
+    if of.input.len() <= CHUNK_BYTES * (k * width) as usize {
         return of.empties[level as usize];
     }
     if level == 0 {
@@ -51,11 +55,11 @@ pub fn input_root<D: Digester>(d: D, input: &[u8]) -> Digest32
     ensures { result.0 ≡ tree.input_root D.digest_of input.now }
 {
     let mut empties = [Digest32::ZERO; LEVELS];
-    fill_empty_nodes(d, &leaf_text(&[0; 32]), &mut empties);
+    fill_empty_nodes(d, &leaf_text(&[0; CHUNK_BYTES]), &mut empties);
     let of = Source {
         d,
         input,
         empties: &empties,
     };
-    part(&of, 15, 32_768, 0)
+    part(&of, ROOT_LEVEL, CHUNKS as u32, 0)
 }

@@ -1,4 +1,4 @@
-use Rattle.std.proofs.Common.{Option, refl, sym, subst}
+use Rattle.std.proofs.Common.{Option, sym, subst}
 use Rattle.mem_plain.specs.Contents.{no_bytes}
 use Rattle.mem_tree.specs.Page.{IsMadeTree, IsPageOf}
 use Rattle.mem_tree.specs.Tree.{kept_of}

@@ -1,8 +1,6 @@
-use Rattle.std.proofs.Common.{◌≡◌, ◌≢◌, ◌⊎◌, inl, inr, ◌+◌, ◌*◌, ◌||◌, ℕ, List, is_some, length, take, get_or, false, sym, ap, ◌∙◌, subst, arith, ⊎_elim}
+use Rattle.std.proofs.Common.{◌≡◌, inl, inr, ◌+◌, ◌*◌, ◌||◌, ℕ, is_some, take, get_or, sym, ap, ◌∙◌, subst, arith, ⊎_elim}
 use Rattle.std.proofs.lemmas.Bool.{cases_eq}
 use Rattle.std.proofs.lemmas.List.{take_all, take_more}
-use Rattle.mem_plain.specs.Contents.{has_page}
-use Rattle.merkle_nodes.specs.Node.{digest_at}
 use Rattle.mem_tree.specs.Tree.{kept_of, upper_at, IsJoinedAbove}
 use Rattle.mem_tree.specs.Costs.{kept_among}
 use Rattle.mem_tree.specs.Levels.{joined_among}

@@ -1,8 +1,7 @@
-use Rattle.std.proofs.Common.{◌≡◌, ◌≢◌, inl, inr, ◌+◌, ◌*◌, ◌/◌, ◌^◌, ℕ, length, true, false, true≢false, refl, sym, ap, ◌∙◌, arith, ⊎_elim, subst}
+use Rattle.std.proofs.Common.{◌≡◌, inl, inr, ◌+◌, ◌/◌, ◌^◌, ℕ, length, true, false, refl, sym, ap, ◌∙◌, arith, ⊎_elim, subst}
 use Rattle.std.proofs.Math.Nat.{div-one}
-use Rattle.std.proofs.lemmas.Bool.{cases_eq, cases_Bool}
 use Rattle.mem_plain.specs.Contents.{has_page}
-use Rattle.mem_tree.specs.Tree.{kept_of, upper_at}
+use Rattle.mem_tree.specs.Tree.{kept_of}
 use Rattle.mem_tree.specs.Levels.{IsJoinedFrom}
 use Rattle.mem_tree.specs.Costs.{ancestors, kept_above, kept_among, parents}
 use Rattle.mem_tree.proofs.JoinedLemmas.{page-same}

@@ -1,18 +1,17 @@
-use Rattle.std.proofs.Common.{◌≡◌, ◌+◌, ◌∷◌, ◌++◌, ◌||◌, cond, [], ℕ, List, refl, Option, true, false, true≢false, length, length-append, ap, ◌∙◌, sym, subst, arith, ⊎_elim}
+use Rattle.std.proofs.Common.{◌≡◌, ◌+◌, ◌∷◌, ◌++◌, ◌||◌, cond, [], ℕ, refl, Option, true, false, true≢false, length, length-append, ap, ◌∙◌, sym, subst, arith, ⊎_elim}
 use Rattle.std.specs.Ordering.{nat_cmp}
 use Rattle.std.specs.List.Sorted.{IsStrictlySortedBy}
 use Rattle.std.proofs.lemmas.Bool.{cases_eq, cases_Bool}
 use Rattle.std.proofs.lemmas.Map.Keys.{sorted_tail}
 use Rattle.std.proofs.lemmas.List.{append_assoc, append-nil}
 use Rattle.mem_plain.specs.Contents.{has_page}
-use Rattle.mem_tree.specs.Page.{AreEmpty, IsPageOf}
+use Rattle.mem_tree.specs.Page.{IsPageOf}
 use Rattle.mem_tree.specs.Tree.{kept_of, page_at, IsJoinedBut}
-use Rattle.mem_tree.specs.Costs.{changed_chunks, has_changed, page_changes, page_digests, page_renewals, stale_pages}
+use Rattle.mem_tree.specs.Costs.{changed_chunks, has_changed, page_digests, page_renewals, stale_pages}
 use Rattle.mem_tree.specs.Levels.{IsJoinedOver, as_number}
 use Rattle.mem_tree.specs.declared.kept.PageTree.{PageTree}
 use Rattle.mem_tree.proofs.AmongLemmas.{among-head, among-tail, among-other, sorted-apart}
-use Rattle.mem_tree.proofs.JoinedLemmas.{stays-joined}
-use Rattle.mem_tree.proofs.StaleLemmas.{over-first, over-last, over-more, over-same, aside, among-one}
+use Rattle.mem_tree.proofs.StaleLemmas.{over-first, over-last, over-more, over-same, others-stay, joined-stays, changes-left, among-one}
 use Rattle.mem_tree.proofs.kept.Nodes.renew_pages.Goals as goal
 
 pub invariant_of-of : goal.invariant_of-of
@@ -20,62 +19,42 @@ invariant_of-of g c =
     record { below = c.requires.pages c.in-Some.page.now (c.pages.invariant.among c.in-Some.page.now (subst (λ l. has_page l c.in-Some.page.now ≡ true) (sym c.in-Some.ensures.steps) (among-head c.in-Some.page.now c.next.new.self))) }
 
 pub returns-in_err-is_stale-clause-others : goal.returns-in_err-is_stale-clause-others
-returns-in_err-is_stale-clause-others g c = λ p not.
-    let page = c.in-Some.page.now in
-    let there = c.pages.invariant.among page (subst (λ l. has_page l page ≡ true) (sym c.in-Some.ensures.steps) (among-head page c.next.new.self)) in
-    c.renew_page.ensures.elsewhere p (λ e. true≢false (sym there ∙ (ap (has_page c.args.touched.now.pages.now.keys) (sym e) ∙ not))) ∙ c.pages.invariant.others p not
+returns-in_err-is_stale-clause-others g c =
+    let done = c.renew_page.ensures in
+    others-stay g.C.Counted.digest_of (kept_of c.pages.self) (kept_of c.renew_page.new.self) c.in-Some.page.now done.empties done.elsewhere done.upper c.pages.page-iterator c.next.new.self c.args.touched.now.pages.now.keys
+    c.in-Some.ensures.steps c.pages.invariant.among (kept_of c.args.self.now) c.pages.invariant.others
 
 pub returns-in_err-is_stale-clause-joined : goal.returns-in_err-is_stale-clause-joined
 returns-in_err-is_stale-clause-joined g c =
-    let digest = g.C.Counted.digest_of in
-    let page = c.in-Some.page.now in
-    let there = c.pages.invariant.among page (subst (λ l. has_page l page ≡ true) (sym c.in-Some.ensures.steps) (among-head page c.next.new.self)) in
     let done = c.renew_page.ensures in
-    stays-joined digest (kept_of c.pages.self) (kept_of c.renew_page.new.self) page done.empties done.elsewhere
-    (aside digest (kept_of c.pages.self) (kept_of c.renew_page.new.self) page done.empties done.elsewhere done.upper) c.args.touched.now.pages.now.keys c.pages.invariant.joined there
+    joined-stays g.C.Counted.digest_of (kept_of c.pages.self) (kept_of c.renew_page.new.self) c.in-Some.page.now done.empties done.elsewhere done.upper c.pages.page-iterator c.next.new.self c.args.touched.now.pages.now.keys
+    c.in-Some.ensures.steps c.pages.invariant.among c.pages.invariant.joined
 
 pub returns-in_err-is_stale-clause-few_in_all : goal.returns-in_err-is_stale-clause-few_in_all
 returns-in_err-is_stale-clause-few_in_all g c = λ failed.
-    let m = c.args.mem.now in
-    let page = c.in-Some.page.now in
-    let rest = c.next.new.self in
-    let step = c.in-Some.ensures.steps in
-    let first = kept_of c.args.self.now in
-    let was : page_at (kept_of c.pages.self) page ≡ page_at first page = c.pages.invariant.left page (subst (λ l. has_page l page ≡ true) (sym step) (among-head page rest)) in
-    let changes : changed_chunks first m c.pages.page-iterator ≡ page_changes (page_at first page) m page + changed_chunks first m rest = ap (changed_chunks first m) step in
-    let changes' : page_changes (page_at (kept_of c.pages.self) page) m page ≡ page_changes (page_at first page) m page = ap (λ (o : Option PageTree). page_changes o m page) was in
+    let left = changes-left (kept_of c.args.self.now) (kept_of c.pages.self) c.args.mem.now c.in-Some.page.now c.pages.page-iterator c.next.new.self c.in-Some.ensures.steps c.pages.invariant.left in
     let so_far = c.pages.invariant.few failed in
-    let now' = c.renew_page.ensures.few_in_all failed in
-    omega (arith, so_far, now', changes, changes')
+    let here = c.renew_page.ensures.few_in_all failed in
+    omega (arith, so_far, here, left)
 
 pub returns-in_err-add_if-clause-others : goal.returns-in_err-add_if-clause-others
-returns-in_err-add_if-clause-others g c = λ p not.
-    let page = c.in-Some.page.now in
-    let there = c.pages.invariant.among page (subst (λ l. has_page l page ≡ true) (sym c.in-Some.ensures.steps) (among-head page c.next.new.self)) in
-    c.renew_page.ensures.elsewhere p (λ e. true≢false (sym there ∙ (ap (has_page c.args.touched.now.pages.now.keys) (sym e) ∙ not))) ∙ c.pages.invariant.others p not
+returns-in_err-add_if-clause-others g c =
+    let done = c.renew_page.ensures in
+    others-stay g.C.Counted.digest_of (kept_of c.pages.self) (kept_of c.renew_page.new.self) c.in-Some.page.now done.empties done.elsewhere done.upper c.pages.page-iterator c.next.new.self c.args.touched.now.pages.now.keys
+    c.in-Some.ensures.steps c.pages.invariant.among (kept_of c.args.self.now) c.pages.invariant.others
 
 pub returns-in_err-add_if-clause-joined : goal.returns-in_err-add_if-clause-joined
 returns-in_err-add_if-clause-joined g c =
-    let digest = g.C.Counted.digest_of in
-    let page = c.in-Some.page.now in
-    let there = c.pages.invariant.among page (subst (λ l. has_page l page ≡ true) (sym c.in-Some.ensures.steps) (among-head page c.next.new.self)) in
     let done = c.renew_page.ensures in
-    stays-joined digest (kept_of c.pages.self) (kept_of c.renew_page.new.self) page done.empties done.elsewhere
-    (aside digest (kept_of c.pages.self) (kept_of c.renew_page.new.self) page done.empties done.elsewhere done.upper) c.args.touched.now.pages.now.keys c.pages.invariant.joined there
+    joined-stays g.C.Counted.digest_of (kept_of c.pages.self) (kept_of c.renew_page.new.self) c.in-Some.page.now done.empties done.elsewhere done.upper c.pages.page-iterator c.next.new.self c.args.touched.now.pages.now.keys
+    c.in-Some.ensures.steps c.pages.invariant.among c.pages.invariant.joined
 
 pub returns-in_err-add_if-clause-few_in_all : goal.returns-in_err-add_if-clause-few_in_all
 returns-in_err-add_if-clause-few_in_all g c = λ failed.
-    let m = c.args.mem.now in
-    let page = c.in-Some.page.now in
-    let rest = c.next.new.self in
-    let step = c.in-Some.ensures.steps in
-    let first = kept_of c.args.self.now in
-    let was : page_at (kept_of c.pages.self) page ≡ page_at first page = c.pages.invariant.left page (subst (λ l. has_page l page ≡ true) (sym step) (among-head page rest)) in
-    let changes : changed_chunks first m c.pages.page-iterator ≡ page_changes (page_at first page) m page + changed_chunks first m rest = ap (changed_chunks first m) step in
-    let changes' : page_changes (page_at (kept_of c.pages.self) page) m page ≡ page_changes (page_at first page) m page = ap (λ (o : Option PageTree). page_changes o m page) was in
+    let left = changes-left (kept_of c.args.self.now) (kept_of c.pages.self) c.args.mem.now c.in-Some.page.now c.pages.page-iterator c.next.new.self c.in-Some.ensures.steps c.pages.invariant.left in
     let so_far = c.pages.invariant.few failed in
-    let now' = c.renew_page.ensures.few_in_all failed in
-    omega (arith, so_far, now', changes, changes')
+    let here = c.renew_page.ensures.few_in_all failed in
+    omega (arith, so_far, here, left)
 
 pub pages-init : goal.pages-init
 pages-init g c =
@@ -132,8 +111,7 @@ pages-preserved g c =
     let either = cases_Bool c.in_ok-is_stale.is_stale in
     let one : c.in_ok-is_stale.is_stale ≡ true → length now' ≡ length old + 1 = λ e. ap (length {A = ℕ}) (added e) ∙ length-append old (page ∷ []) in
     let same : c.in_ok-is_stale.is_stale ≡ false → length now' ≡ length old = λ e. ap (length {A = ℕ}) (kept e) in
-    let changes : changed_chunks first m c.pages.page-iterator ≡ page_changes (page_at first page) m page + changed_chunks first m rest = ap (changed_chunks first m) step in
-    let changes' : page_changes (page_at before page) m page ≡ page_changes (page_at first page) m page = ap (λ (o : Option PageTree). page_changes o m page) was in
+    let changes = changes-left first before m page c.pages.page-iterator rest step inv.left in
     record {
       sorted = sorted_tail nat_cmp page rest sorted;
       among = λ p at. inv.among p (subst (λ l. has_page l p ≡ true) (sym step) (among-tail page rest p at));
@@ -142,10 +120,10 @@ pages-preserved g c =
           (λ here. subst (λ q. IsPageOf (page_at after q) m q) (sym here) ok.page)
           (λ other. subst (λ (o : Option PageTree). IsPageOf o m p) (sym (done.elsewhere p other)) (inv.pages is p (subst (λ l. has_page l p ≡ false) (sym step) (among-other page rest p other not))))
           (cases_eq p page);
-      others = λ p not. done.elsewhere p (λ e. true≢false (sym there ∙ (ap (has_page keys) (sym e) ∙ not))) ∙ inv.others p not;
+      others = others-stay digest before after page done.empties done.elsewhere done.upper c.pages.page-iterator rest keys step inv.among first inv.others;
       left = λ p at. done.elsewhere p (λ e. true≢false (sym at ∙ (ap (has_page rest) e ∙ apart))) ∙ inv.left p (subst (λ l. has_page l p ≡ true) (sym step) (among-tail page rest p at));
       made = done.made;
-      joined = stays-joined digest before after page done.empties done.elsewhere (aside digest before after page done.empties done.elsewhere done.upper) keys inv.joined there;
+      joined = joined-stays digest before after page done.empties done.elsewhere done.upper c.pages.page-iterator rest keys step inv.among inv.joined;
       fresh = λ failed. ⊎_elim
           (λ e. subst (λ xs. IsJoinedOver digest after xs rest) (sym (added e)) (over-more digest before after page done.empties done.elsewhere done.upper old c.pages.page-iterator rest (ok.stale e)
           (λ p other not. subst (λ l. has_page l p ≡ false) (sym step) (among-other page rest p other not)) (inv.fresh failed)))
@@ -177,8 +155,8 @@ pages-preserved g c =
           omega (arith, here, inv.exact, digests, digests');
       steps = omega (arith, inv.steps, long, done.steps);
       few = λ failed. let so_far = inv.few failed in let here = ok.few failed in ⊎_elim
-          (λ e. let number : as_number c.in_ok-is_stale.is_stale ≡ 1 = ap as_number e in omega (arith, so_far, here, number, one e, changes, changes'))
-          (λ e. let number : as_number c.in_ok-is_stale.is_stale ≡ 0 = ap as_number e in omega (arith, so_far, here, number, same e, changes, changes'))
+          (λ e. let number : as_number c.in_ok-is_stale.is_stale ≡ 1 = ap as_number e in omega (arith, so_far, here, number, one e, changes))
+          (λ e. let number : as_number c.in_ok-is_stale.is_stale ≡ 0 = ap as_number e in omega (arith, so_far, here, number, same e, changes))
           either;
       more = omega (arith, inv.more, done.more);
     }

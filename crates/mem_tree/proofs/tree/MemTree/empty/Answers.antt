@@ -1,4 +1,4 @@
-use Rattle.std.proofs.Common.{ℕ, List, [], sym, subst}
+use Rattle.std.proofs.Common.{ℕ, List, sym, subst}
 use Rattle.mem_plain.specs.Contents.{no_bytes}
 use Rattle.mem_tree.specs.Tree.{kept_of, IsOver}
 use Rattle.mem_tree.proofs.tree.MemTree.empty.Goals as goal
