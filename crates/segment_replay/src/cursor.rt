@@ -185,8 +185,8 @@ fn release_tree<D: Digester>(cursor: Cursor<D>) -> Result<MemTree<D>, Memory>
 }
 
 /// The cursor of a step, ahead or behind, up to the one from which the run stands still: its machine is replayed from the last
-/// checkpoint up to the step, and its tree is that of the cursor that is kept, brought up to the machine's memory. So the chunks alone
-/// that differ are digested, and the nodes above them.
+/// checkpoint up to the step, and its tree is that of the last cursor, brought up to the machine's memory. So the chunks alone that
+/// differ are digested, and the nodes above them.
 fn restore_to<D: Digester>(
     replay: &Replay<'_, D>,
     cursor: Cursor<D>,
@@ -199,9 +199,9 @@ fn restore_to<D: Digester>(
     ensures tree { IfOk result (λ c. IsFreshTree D.digest_of c.tree c.machine.mem) }
 {
     unused_pages_are_alike();
-    let kept = release_tree(cursor)?;
+    let released = release_tree(cursor)?;
     let machine = machine_up_to(replay.d, replay.run, goal)?;
-    let mut turned = touch_used_pages(kept, &machine.mem)?;
+    let mut turned = touch_used_pages(released, &machine.mem)?;
     turned.refresh(&machine.mem)?;
     Ok(Cursor {
         at: goal,
@@ -210,25 +210,24 @@ fn restore_to<D: Digester>(
     })
 }
 
-/// The cursor of a step, up to the one from which the run stands still: the cursor that is kept moved on, if the step lies
-/// ahead of it, and either is near or no checkpoint lies between; else the kept one turned to the step; and a new one if none
-/// is kept.
+/// The cursor of a step, up to the one from which the run stands still: the last cursor moved on, if the step lies ahead of it, and
+/// either is near or no checkpoint lies between; else the last one turned to the step; and a new one if there is none.
 fn cursor_at<D: Digester + Send + Sync, R: Threads + Sync>(
     rt: &R,
     alloc: Global,
     replay: &Replay<'_, D>,
-    kept: Option<Cursor<D>>,
+    last: Option<Cursor<D>>,
     goal: u64,
 ) -> Result<Cursor<D>, Memory>
     requires goal { goal ≤ still_of replay.now.run.now }
-    requires machine { IfSome kept (λ c. IsMachineOf D.digest_of replay.now.run.now c.at c.machine) }
-    requires tree { IfSome kept (λ c. IsFreshTree D.digest_of c.tree c.machine.mem) }
+    requires machine { IfSome last (λ c. IsMachineOf D.digest_of replay.now.run.now c.at c.machine) }
+    requires tree { IfSome last (λ c. IsFreshTree D.digest_of c.tree c.machine.mem) }
     ensures at { IfOk result (λ c. c.at ≡ goal) }
     ensures machine { IfOk result (λ c. IsMachineOf D.digest_of replay.now.run.now goal c.machine) }
     ensures tree { IfOk result (λ c. IsFreshTree D.digest_of c.tree c.machine.mem) }
 {
     let every = u64::from(replay.run.every());
-    if let Some(cursor) = kept {
+    if let Some(cursor) = last {
         if cursor.at <= goal {
             let near = is_cheaper_to_step(&cursor.machine, goal - cursor.at);
             if near || goal / every == cursor.at / every {
@@ -265,22 +264,22 @@ pub struct Rooted<D: Digester> {
     pub root: Digest32,
 }
 
-/// The cursor of a step, made from one that is kept; above the bound it is that of the bound.
+/// The cursor of a step, made from the last one, if there is one; above the bound it is that of the bound.
 pub fn cursor_of_step<D: Digester + Send + Sync, R: Threads + Sync>(
     rt: &R,
     alloc: Global,
     replay: &Replay<'_, D>,
-    kept: Option<Cursor<D>>,
+    last: Option<Cursor<D>>,
     step: u64,
 ) -> Result<Cursor<D>, Memory>
-    requires machine { IfSome kept (λ c. IsMachineOf D.digest_of replay.now.run.now c.at c.machine) }
-    requires tree { IfSome kept (λ c. IsFreshTree D.digest_of c.tree c.machine.mem) }
+    requires machine { IfSome last (λ c. IsMachineOf D.digest_of replay.now.run.now c.at c.machine) }
+    requires tree { IfSome last (λ c. IsFreshTree D.digest_of c.tree c.machine.mem) }
     ensures machine { IfOk result (λ c. IsMachineOf D.digest_of replay.now.run.now c.at c.machine) }
     ensures tree { IfOk result (λ c. IsFreshTree D.digest_of c.tree c.machine.mem) }
     ensures step { IfOk result (λ c. state_of_step replay.now.run.now c.at ≡ state_of_step replay.now.run.now (min step replay.now.run.now.bound)) }
 {
     let goal = goal_of(replay.run, step);
-    cursor_at(rt, alloc, replay, kept, goal)
+    cursor_at(rt, alloc, replay, last, goal)
 }
 
 /// The root of a step, and a cursor for the next one. As the code shows, from version 2 on those leaves alone of the registers are
@@ -290,19 +289,19 @@ pub fn root_of_step<D: Digester + Send + Sync, R: Threads + Sync>(
     alloc: Global,
     replay: &Replay<'_, D>,
     registers: &mut KeptRegisters<D>,
-    kept: Option<Cursor<D>>,
+    last: Option<Cursor<D>>,
     step: u64,
 ) -> Result<Rooted<D>, Memory>
     requires registers { registers.old ≡ replay.now.run.now.first.version }
-    requires machine { IfSome kept (λ c. IsMachineOf D.digest_of replay.now.run.now c.at c.machine) }
-    requires tree { IfSome kept (λ c. IsFreshTree D.digest_of c.tree c.machine.mem) }
+    requires machine { IfSome last (λ c. IsMachineOf D.digest_of replay.now.run.now c.at c.machine) }
+    requires tree { IfSome last (λ c. IsFreshTree D.digest_of c.tree c.machine.mem) }
     ensures registers { registers.new ≡ registers.old }
     ensures machine { IfOk result (λ r. IsMachineOf D.digest_of replay.now.run.now r.cursor.at r.cursor.machine) }
     ensures tree { IfOk result (λ r. IsFreshTree D.digest_of r.cursor.tree r.cursor.machine.mem) }
     ensures root { IfOk result (λ r. r.root.0 ≡ root_at D.digest_of replay.now.run.now step) }
 {
     tampered_runs_keep_the_input();
-    let cursor = cursor_of_step(rt, alloc, replay, kept, step)?;
+    let cursor = cursor_of_step(rt, alloc, replay, last, step)?;
     let machine = &cursor.machine;
     let parts = Parts {
         memory: cursor.tree.root(),

@@ -7,7 +7,7 @@ ghost use Rattle.segment_replay.specs.Roots.{root_at, digests};
 ghost use Rattle.segment_replay.specs.Cursor.{IsWorkerOf};
 
 use crate::cursor::{Cursor, Replay, goal_of};
-use crate::replaying::{Worker, keep_cursor, roots_by, take_cursor};
+use crate::replaying::{Worker, put_back_cursor, roots_by, take_cursor};
 use checkpoint_run::{Run, tampered_runs_keep_the_input};
 use digest_core::{Digester, Sha256, Weak8};
 use rd_base::{Digest32, Memory};
@@ -26,8 +26,8 @@ fn committed_by<D: Digester + Send + Sync, R: Threads + Sync>(
     workers: &mut Vec<Worker<D>>,
 ) -> Result<Committed<D>, Memory>
     requires input { HasInput D.digest_of replay.now.run.now.first input }
-    requires kept { All (λ w. IsWorkerOf D.digest_of replay.now.run.now w) workers.old.items }
-    ensures kept { All (λ w. IsWorkerOf D.digest_of replay.now.run.now w) workers.new.items }
+    requires workers { All (λ w. IsWorkerOf D.digest_of replay.now.run.now w) workers.old.items }
+    ensures workers { All (λ w. IsWorkerOf D.digest_of replay.now.run.now w) workers.new.items }
     ensures committed { IfOk result (λ c. c ≡ state_of_step replay.now.run.now (min step replay.now.run.now.bound)) }
 {
     tampered_runs_keep_the_input();
@@ -144,7 +144,7 @@ impl<D: Digester> KeptRun<D> {
     {
         let at = goal_of(&self.run, step);
         let (machine, tree) = committed.into_parts();
-        keep_cursor(&self.run, Cursor { at, machine, tree }, &mut self.workers);
+        put_back_cursor(&self.run, Cursor { at, machine, tree }, &mut self.workers);
     }
 }
 

@@ -6,8 +6,7 @@
 //! depend on it. A `KeptRun` keeps its workers, each of which makes its next root from the one that it made last, and digests no part of
 //! the input: it gets the input's tree, which all runs of a machine may share, from its caller. A digester by which this can be done in
 //! threads is a `Replays`. A caller that asks once calls the functions `roots` and `committed_at`, which keep nothing; the root of the
-//! run's input, which version 3 has, is made once a call, or once for all runs of a machine if the caller hands it on
-//! (`run_input_root`, `roots_with_input`).
+//! run's input, which version 3 has, is made once a call.
 //!
 //! The steps are cut into at most as many pieces as there are workers, which is proved of `piece_size`. Each worker goes from step to step
 //! with one tree of memory and, from version 2 on, one of registers, so that what differs alone is digested. It carries out the steps in
@@ -21,6 +20,5 @@ mod cursor;
 mod kept_run;
 mod replaying;
 
-pub use cursor::run_input_root;
 pub use kept_run::{KeptRun, Replays};
-pub use replaying::{committed_at, roots, roots_with_input};
+pub use replaying::{committed_at, roots};

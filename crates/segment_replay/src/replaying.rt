@@ -1,8 +1,8 @@
 //! Roots of steps, made by workers side by side.
-ghost use Rattle.std.specs.Prelude.{◌≡◌, ◌<◌, ◌≤◌, ◌+◌, ◌*◌, ◌/◌, ◌%◌, ℕ, All, IfOk, OnOk, List, length, map, min, vec_len};
+ghost use Rattle.std.specs.Prelude.{◌≡◌, ◌<◌, ◌≤◌, ◌+◌, ◌*◌, ◌/◌, ◌%◌, ℕ, All, IfOk, IfSome, OnOk, List, length, map, min, vec_len};
 ghost use Rattle.std.specs.Fork.{slice_chunk};
 ghost use Rattle.checkpoint_run.specs.Recorded.{AreChained, state_of_step};
-ghost use Rattle.segment_replay.specs.Roots.{IsInputRoot, root_at, digests};
+ghost use Rattle.segment_replay.specs.Roots.{root_at, digests};
 ghost use Rattle.segment_replay.specs.Cursor.{IsMachineOf, IsFreshTree, IsWorkerOf};
 ghost use Rattle.segment_replay.specs.Pieces.{ArePieces};
 
@@ -18,13 +18,13 @@ use std::thread;
 use std::thread::Threads;
 
 /// What a worker keeps of a run: its cursor, unless it has made no root so far or ran out of memory in its last one; the digests of the
-/// registers that it digested last; and, of the last call that gave it one of several pieces, the roots of its piece, or an `Err` if it
-/// was out of memory or there was no such call so far.
+/// registers that it digested last; and, of the last call that gave it one of several pieces, the roots of its piece, unless it ran out of
+/// memory or there was no such call so far.
 #[derive(Drop)]
 pub struct Worker<D: Digester> {
     pub cursor: Option<Cursor<D>>,
     pub registers: KeptRegisters<D>,
-    pub made: Result<Vec<Digest32>, Memory>,
+    pub made: Option<Vec<Digest32>>,
 }
 
 /// The roots of steps, in their order, by one worker, the first one made from the root that it made last. An `Err` is out of memory; a
@@ -36,15 +36,15 @@ fn replayed<D: Digester + Send + Sync, R: Threads + Sync>(
     steps: &[u64],
     worker: &mut Worker<D>,
 ) -> Result<Vec<Digest32>, Memory>
-    requires kept { IsWorkerOf D.digest_of replay.now.run.now worker.old }
-    ensures kept { IsWorkerOf D.digest_of replay.now.run.now worker.new }
+    requires worker { IsWorkerOf D.digest_of replay.now.run.now worker.old }
+    ensures worker { IsWorkerOf D.digest_of replay.now.run.now worker.new }
     ensures roots { IfOk result (λ v. digests v.items ≡ map (root_at D.digest_of replay.now.run.now) steps.now) }
 {
     let mut roots = Vec::new(alloc);
     'steps: for step in steps {
-        let kept = worker.cursor.take();
+        let last = worker.cursor.take();
         let registers = &mut worker.registers;
-        let Rooted { cursor, root } = root_of_step(rt, alloc, replay, registers, kept, *step)?;
+        let Rooted { cursor, root } = root_of_step(rt, alloc, replay, registers, last, *step)?;
         worker.cursor = Some(cursor);
         roots.push(root)?;
     }
@@ -72,12 +72,12 @@ fn replay_piece<D: Digester + Send + Sync, R: Threads + Sync>(
     place: usize,
     worker: &mut Worker<D>,
 )
-    requires kept { IsWorkerOf D.digest_of replay.now.run.now worker.old }
-    ensures kept { IsWorkerOf D.digest_of replay.now.run.now worker.new }
-    ensures made { IfOk worker.new.made (λ v. digests v.items ≡ slice_chunk (map (root_at D.digest_of replay.now.run.now) steps.now) size place) }
+    requires worker { IsWorkerOf D.digest_of replay.now.run.now worker.old }
+    ensures worker { IsWorkerOf D.digest_of replay.now.run.now worker.new }
+    ensures made { IfSome worker.new.made (λ v. digests v.items ≡ slice_chunk (map (root_at D.digest_of replay.now.run.now) steps.now) size place) }
 {
     let piece = piece_at(steps, size, place);
-    worker.made = replayed(rt, alloc, replay, piece, worker);
+    worker.made = replayed(rt, alloc, replay, piece, worker).ok();
 }
 
 /// How long a piece is if this many steps are cut into at most `workers` pieces of this length, of which the last one may be
@@ -98,8 +98,8 @@ fn add_workers<D: Digester>(
     count: usize,
     workers: &mut Vec<Worker<D>>,
 ) -> Result<(), Memory>
-    requires kept { All (λ w. IsWorkerOf D.digest_of replay.now.run.now w) workers.old.items }
-    ensures kept { All (λ w. IsWorkerOf D.digest_of replay.now.run.now w) workers.new.items }
+    requires workers { All (λ w. IsWorkerOf D.digest_of replay.now.run.now w) workers.old.items }
+    ensures workers { All (λ w. IsWorkerOf D.digest_of replay.now.run.now w) workers.new.items }
     ensures count { OnOk result (count ≤ vec_len workers.new) }
 {
     'workers: while workers.len() < count {
@@ -107,7 +107,7 @@ fn add_workers<D: Digester>(
         workers.push(Worker {
             cursor: None,
             registers,
-            made: Err(Memory),
+            made: None,
         })?;
     }
     Ok(())
@@ -123,15 +123,15 @@ fn replay_pieces<D: Digester + Send + Sync, R: Threads + Sync>(
     workers: &mut [Worker<D>],
 )
     requires some { 0 < length workers.old }
-    requires kept { All (λ w. IsWorkerOf D.digest_of replay.now.run.now w) workers.old }
-    ensures kept { All (λ w. IsWorkerOf D.digest_of replay.now.run.now w) workers.new }
+    requires workers { All (λ w. IsWorkerOf D.digest_of replay.now.run.now w) workers.old }
+    ensures workers { All (λ w. IsWorkerOf D.digest_of replay.now.run.now w) workers.new }
     ensures count { length workers.new ≡ length workers.old }
     ensures made { ArePieces (map (root_at D.digest_of replay.now.run.now) steps.now) size (map (λ w. w.made) workers.new) }
 {
     let work = |place: usize, worker: &mut Worker<D>|
-        requires kept { IsWorkerOf D.digest_of replay.now.run.now worker.now }
-        ensures kept { IsWorkerOf D.digest_of replay.entry.now.run.now worker.exit.now }
-        ensures made { IfOk worker.exit.now.made (λ v. digests v.items ≡ slice_chunk (map (root_at D.digest_of replay.entry.now.run.now) steps.entry.now) size place) }
+        requires worker { IsWorkerOf D.digest_of replay.now.run.now worker.now }
+        ensures worker { IsWorkerOf D.digest_of replay.entry.now.run.now worker.exit.now }
+        ensures made { IfSome worker.exit.now.made (λ v. digests v.items ≡ slice_chunk (map (root_at D.digest_of replay.entry.now.run.now) steps.entry.now) size place) }
     { replay_piece(rt, alloc, replay, steps, size, place, worker) };
     let threads = workers.len();
     thread::for_each_mut(rt, workers, threads, &work);
@@ -155,8 +155,8 @@ fn joined<D: Digester>(alloc: Global, workers: &[Worker<D>]) -> Result<Vec<Diges
     let mut all = Vec::new(alloc);
     'pieces: for worker in workers {
         match &worker.made {
-            Ok(roots) => all.extend_from_slice(roots)?,
-            Err(memory) => return Err(*memory),
+            Some(roots) => all.extend_from_slice(roots)?,
+            None => return Err(Memory),
         }
     }
     Ok(all)
@@ -175,8 +175,8 @@ pub fn roots_by<D: Digester + Send + Sync, R: Threads + Sync>(
     workers: &mut Vec<Worker<D>>,
 ) -> Result<Vec<Digest32>, Memory>
     requires count { 0 < count }
-    requires kept { All (λ w. IsWorkerOf D.digest_of replay.now.run.now w) workers.old.items }
-    ensures kept { All (λ w. IsWorkerOf D.digest_of replay.now.run.now w) workers.new.items }
+    requires workers { All (λ w. IsWorkerOf D.digest_of replay.now.run.now w) workers.old.items }
+    ensures workers { All (λ w. IsWorkerOf D.digest_of replay.now.run.now w) workers.new.items }
     ensures roots { IfOk result (λ v. digests v.items ≡ map (root_at D.digest_of replay.now.run.now) steps.now) }
 {
     if steps.is_empty() {
@@ -201,48 +201,27 @@ pub fn take_cursor<D: Digester + Send + Sync, R: Threads + Sync>(
     step: u64,
     workers: &mut Vec<Worker<D>>,
 ) -> Result<Cursor<D>, Memory>
-    requires kept { All (λ w. IsWorkerOf D.digest_of replay.now.run.now w) workers.old.items }
-    ensures kept { All (λ w. IsWorkerOf D.digest_of replay.now.run.now w) workers.new.items }
+    requires workers { All (λ w. IsWorkerOf D.digest_of replay.now.run.now w) workers.old.items }
+    ensures workers { All (λ w. IsWorkerOf D.digest_of replay.now.run.now w) workers.new.items }
     ensures machine { IfOk result (λ c. IsMachineOf D.digest_of replay.now.run.now c.at c.machine) }
     ensures tree { IfOk result (λ c. IsFreshTree D.digest_of c.tree c.machine.mem) }
     ensures step { IfOk result (λ c. state_of_step replay.now.run.now c.at ≡ state_of_step replay.now.run.now (min step replay.now.run.now.bound)) }
 {
     add_workers(replay, 1, workers)?;
-    let kept = workers[0].cursor.take();
-    cursor_of_step(rt, alloc, replay, kept, step)
+    let last = workers[0].cursor.take();
+    cursor_of_step(rt, alloc, replay, last, step)
 }
 
 /// Gives the first worker a cursor of the run, if there is one.
-pub fn keep_cursor<D: Digester>(_run: &Run, cursor: Cursor<D>, workers: &mut Vec<Worker<D>>)
+pub fn put_back_cursor<D: Digester>(_run: &Run, cursor: Cursor<D>, workers: &mut Vec<Worker<D>>)
     requires machine { IsMachineOf D.digest_of _run.now cursor.at cursor.machine }
     requires tree { IsFreshTree D.digest_of cursor.tree cursor.machine.mem }
-    requires kept { All (λ w. IsWorkerOf D.digest_of _run.now w) workers.old.items }
-    ensures kept { All (λ w. IsWorkerOf D.digest_of _run.now w) workers.new.items }
+    requires workers { All (λ w. IsWorkerOf D.digest_of _run.now w) workers.old.items }
+    ensures workers { All (λ w. IsWorkerOf D.digest_of _run.now w) workers.new.items }
 {
     if !workers.is_empty() {
         workers[0].cursor = Some(cursor);
     }
-}
-
-/// `roots`, from the root of the run's input, which `run_input_root` gives. So it is made once, however often roots are asked of a run, or
-/// of runs of one machine.
-pub fn roots_with_input<D: Digester + Send + Sync, R: Threads + Sync>(
-    rt: &R,
-    alloc: Global,
-    d: D,
-    run: &Run,
-    input: Digest32,
-    steps: &[u64],
-    workers: u32,
-) -> Result<Vec<Digest32>, Memory>
-    requires workers { 0 < workers }
-    requires chained { AreChained D.digest_of run.now }
-    requires input { IsInputRoot D.digest_of run.now input.0 }
-    ensures { IfOk result (λ v. digests v.items ≡ map (root_at D.digest_of run.now) steps.now) }
-{
-    let replay = Replay { d, run, input };
-    let mut made = Vec::new(alloc);
-    roots_by(rt, alloc, &replay, steps, workers, &mut made)
 }
 
 /// The roots of the run's states of some steps, each in the version of the run, in the order asked; a step may be asked more than
@@ -263,7 +242,9 @@ pub fn roots<D: Digester + Send + Sync, R: Threads + Sync>(
     ensures { IfOk result (λ v. digests v.items ≡ map (root_at D.digest_of run.now) steps.now) }
 {
     let input = run_input_root(d, run);
-    roots_with_input(rt, alloc, d, run, input, steps, workers)
+    let replay = Replay { d, run, input };
+    let mut made = Vec::new(alloc);
+    roots_by(rt, alloc, &replay, steps, workers, &mut made)
 }
 
 /// The machine of the run's state of a step, with the trees of its version; above the bound the state of the bound stands for it. The

@@ -12,7 +12,7 @@ use checkpoint_run::Run;
 use digest_core::{Digester, Sha256};
 use rd_base::{Digest32, Memory, Tamper};
 use rv_step::Machine;
-use segment_replay::{KeptRun, committed_at, roots, roots_with_input, run_input_root};
+use segment_replay::{KeptRun, committed_at, roots};
 use state_commit::{SharedInput, state_root, state_root_with};
 use std::alloc::Global;
 use std::sync::atomic::{AtomicU64, Ordering};
@@ -38,25 +38,6 @@ pub fn counted<R: Threads + Sync>(
     };
     let found = roots(rt, alloc, counted, run, steps, workers)?;
     Ok((found, made.load(Ordering::SeqCst)))
-}
-
-/// How many digests the roots take, by one worker, if the root of the input is given. An `Err` is out of memory.
-fn counted_with_input<R: Threads + Sync>(
-    rt: &R,
-    alloc: Global,
-    run: &Run,
-    steps: &[u64],
-) -> Result<u64, Memory>
-    requires { AreChained sha256 run.now }
-{
-    let made = AtomicU64::new(0);
-    let counted = Tally {
-        of: Sha256,
-        made: &made,
-    };
-    let input = run_input_root(Sha256, run);
-    roots_with_input(rt, alloc, counted, run, input, steps, 1)?;
-    Ok(made.load(Ordering::SeqCst))
 }
 
 /// How many digests more the roots of the first steps take than those of the others, in the words of `more` or `within`.
@@ -85,21 +66,6 @@ pub fn more<R: Threads + Sync>(
     let (_, many) = counted(rt, alloc, run, 1, steps.as_slice())?;
     let (_, few) = counted(rt, alloc, run, 1, others.as_slice())?;
     in_words(alloc, words, many.wrapping_sub(few))
-}
-
-/// `input_root BOUND EVERY TAMPER STEP,..`: how many digests the roots of steps take less if the root of the input is given.
-pub fn input_root<R: Threads + Sync>(
-    rt: &R,
-    alloc: Global,
-    run: &Run,
-    words: &[&str],
-) -> Result<String, Unanswered>
-    requires { AreChained sha256 run.now }
-{
-    let steps = steps_of(alloc, words, 4)?;
-    let (_, whole) = counted(rt, alloc, run, 1, steps.as_slice())?;
-    let rest = counted_with_input(rt, alloc, run, steps.as_slice())?;
-    Ok(format!(in alloc; "{}", whole.wrapping_sub(rest))?)
 }
 
 /// How many digests the root of the state at the start takes less if the tree of the input is given.
@@ -150,6 +116,41 @@ fn kept_run<'a>(
     let run = run_from(alloc, &machine, bound, every, Tamper::Untouched)?;
     let input = SharedInput::of(alloc, counted, &machine)?;
     Ok(Box::new(alloc, with_input(alloc, counted, &machine, run, input))?)
+}
+
+/// How many digests the roots of steps take, by one worker, from a kept run, which has the tree of the input.
+fn made_by_kept_run<R: Threads + Sync>(
+    rt: &R,
+    alloc: Global,
+    program: &Program,
+    words: &[&str],
+    steps: &[u64],
+) -> Result<u64, Unanswered> {
+    let made = AtomicU64::new(0);
+    let counted = Tally {
+        of: Sha256,
+        made: &made,
+    };
+    let mut kept = kept_run(alloc, counted, program, words)?;
+    made.store(0, Ordering::SeqCst);
+    drop(kept.roots(rt, alloc, steps, 1)?);
+    Ok(made.load(Ordering::SeqCst))
+}
+
+/// `input_root BOUND EVERY untouched STEP,..`: how many digests the roots of steps take less from a kept run.
+pub fn input_root<R: Threads + Sync>(
+    rt: &R,
+    alloc: Global,
+    program: &Program,
+    run: &Run,
+    words: &[&str],
+) -> Result<String, Unanswered>
+    requires { AreChained sha256 run.now }
+{
+    let steps = steps_of(alloc, words, 4)?;
+    let (_, whole) = counted(rt, alloc, run, 1, steps.as_slice())?;
+    let rest = made_by_kept_run(rt, alloc, program, words, steps.as_slice())?;
+    Ok(format!(in alloc; "{}", whole.wrapping_sub(rest))?)
 }
 
 /// How many digests the committed machine of the bound takes without what is kept of a run, and from a kept run that shares the tree of the

@@ -22,7 +22,7 @@ fn of_digests<R: Threads + Sync>(
 {
     match word(words, 0)? {
         "more" | "within" => digests::more(rt, alloc, run, words),
-        "input_root" => digests::input_root(rt, alloc, run, words),
+        "input_root" => digests::input_root(rt, alloc, program, run, words),
         "input_tree" => digests::input_tree(rt, alloc, program, run, words),
         _ => Err(Unanswered::NoRow),
     }

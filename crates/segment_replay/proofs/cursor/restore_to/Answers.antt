@@ -3,7 +3,7 @@ use Rattle.segment_replay.proofs.cursor.restore_to.Goals as goal
 pub returns-clause-tree : goal.returns-clause-tree
 returns-clause-tree g c =
     let old = c.args.cursor.machine.mem in
-    let before = c.in_ok-kept.ensures in
+    let before = c.in_ok-released.ensures in
     let after = c.in_ok-turned.ensures in
     record {
       untouched = c.in_ok-refresh.ensures.untouched;

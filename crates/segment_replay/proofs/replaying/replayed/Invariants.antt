@@ -6,5 +6,5 @@ use Rattle.segment_replay.proofs.replaying.replayed.Given as goal
 abbrev pub invariant-steps : goal.invariant-steps
 invariant-steps g l = record {
   so_far : digests l.roots.items ≡ map (root_at g.D.Digester.digest_of l.replay.run.now) (take l.step-index l.steps);
-  kept : IsWorkerOf g.D.Digester.digest_of l.replay.run.now l.worker;
+  worker : IsWorkerOf g.D.Digester.digest_of l.replay.run.now l.worker;
 }

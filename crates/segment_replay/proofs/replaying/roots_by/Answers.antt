@@ -6,22 +6,22 @@ use Rattle.segment_replay.specs.Cursor.{IsWorkerOf}
 use Rattle.segment_replay.proofs.PieceLemmas.{written_back, enough_workers}
 use Rattle.segment_replay.proofs.replaying.roots_by.Goals as goal
 
-pub returns-clause-kept : goal.returns-clause-kept
-returns-clause-kept g c =
+pub returns-clause-workers : goal.returns-clause-workers
+returns-clause-workers g c =
     let busy = c.replay_pieces.new.workers in
     let idle = c.split_at_mut-busy.result.1.now in
     let all = busy ++ idle in
-    let kept = IsWorkerOf g.D.Digester.digest_of c.args.replay.now.run.now in
+    let is_worker = IsWorkerOf g.D.Digester.digest_of c.args.replay.now.run.now in
     let same = ap length c.deref_mut.ensures.value in
     let parts = ap length c.split_at_mut-busy.ensures.value ∙ length-append c.split_at_mut-busy.result.0.now idle in
     let count = length-append busy idle in
     let lent : c.add_workers.new.workers.len ≡ length all =
     c.add_workers.new.workers.ok.0 ∙ (sym same ∙ (parts ∙ (ap (λ n. n + length idle) (sym c.replay_pieces.ensures.count) ∙ sym count))) in
-    subst (All kept)
+    subst (All is_worker)
     (sym (written_back c.add_workers.new.workers.len all (drop (length all) c.add_workers.new.workers.items) lent))
-    (All-append kept busy idle c.replay_pieces.ensures.kept
-    (subst (All kept) (sym c.split_at_mut-busy.ensures.back)
-    (All-drop kept c.piece_count-pieces.result c.deref_mut.result.now (subst (All kept) (sym c.deref_mut.ensures.value) c.in_ok-add_workers.ensures.kept))))
+    (All-append is_worker busy idle c.replay_pieces.ensures.workers
+    (subst (All is_worker) (sym c.split_at_mut-busy.ensures.back)
+    (All-drop is_worker c.piece_count-pieces.result c.deref_mut.result.now (subst (All is_worker) (sym c.deref_mut.ensures.value) c.in_ok-add_workers.ensures.workers))))
 
 pub returns-clause-roots : goal.returns-clause-roots
 returns-clause-roots g c =
