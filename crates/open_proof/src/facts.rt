@@ -14,6 +14,9 @@ use rd_base::{
     Ctl, Digest32, InOpening, Opening, Proof, RegOpenings, Regs, StepProof, StepProof2, StepProof3,
 };
 
+/// How many bytes a chunk has, of memory or of the input.
+pub(crate) const CHUNK_BYTES: u32 = 32;
+
 /// How a proof holds the registers.
 #[derive(Debug, Drop)]
 pub enum HeldRegisters {

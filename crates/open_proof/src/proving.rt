@@ -16,7 +16,7 @@ ghost use Rattle.open_proof.specs.OpenedChunk as openings;
 ghost use Rattle.open_proof.specs.Shown as shown;
 
 use crate::called::{Called, called_of};
-use crate::facts::{Facts, HeldInput, HeldRegisters, plain_proofs_lead, proof_of};
+use crate::facts::{CHUNK_BYTES, Facts, HeldInput, HeldRegisters, plain_proofs_lead, proof_of};
 use digest_core::Digester;
 use mem_tree::input_chunk;
 use rd_base::{
@@ -44,14 +44,11 @@ pub fn make_claim<D: Digester>(alloc: Global, committed: &Committed<D>) -> Resul
     ensures { IfOk result (λ c. c ≡ plain_claim D.digest_of committed.now) }
 {
     let output = committed.machine().output.as_slice().to_vec(alloc)?;
-    let Some(output) = ClaimOutput::new(output) else {
-        unreachable!()
-    };
     Ok(Claim {
         mem: committed.storage_digest(),
         regs: committed.registers_digest(),
         ctl: ctl_of(committed),
-        output,
+        output: ClaimOutput::new(output).unwrap(),
     })
 }
 
@@ -137,7 +134,7 @@ fn called_by_state<D: Digester>(committed: &Committed<D>) -> Called
 fn opening_of<D: Digester>(committed: &Committed<D>, addr: u32) -> Opening
     ensures { result ≡ openings.opening_of D.digest_of committed.now.memory addr }
 {
-    let index = addr / 32;
+    let index = addr / CHUNK_BYTES;
     let chunk = committed.machine().mem.chunk(index);
     let path = committed.memory().path(index);
     paths_have_27_levels(&path);
@@ -200,7 +197,7 @@ fn input_opening_of<D: Digester>(committed: &Committed<D>, byte: u32) -> InOpeni
     requires version { (scheme_of committed.now.version).input ≡ InputScheme.Tree }
     ensures { result ≡ plain.input_opening_of D.digest_of committed.now.input byte }
 {
-    let index = byte / 32;
+    let index = byte / CHUNK_BYTES;
     let chunk = input_chunk(&committed.machine().input, index as usize);
     let path = committed.input().path(index);
     paths_have_15_levels(&path);

@@ -5,7 +5,7 @@ ghost use Rattle.open_proof.specs.Facts as facts;
 ghost use Rattle.open_proof.specs.SeenHeld as seen_held;
 ghost use Rattle.rv_step.specs.Named.{AreRegisters};
 
-use crate::facts::{Facts, HeldInput, HeldRegisters};
+use crate::facts::{CHUNK_BYTES, Facts, HeldInput, HeldRegisters};
 use rd_base::{InOpening, InputScheme, Opening, RegOpening, Regs, Status};
 use rv_step::{StateAccess, fetched, named_by, number_in_chunk};
 
@@ -25,7 +25,7 @@ fn number_shown(chunk: &Option<Opening>, addr: u32, width: u8) -> u32
     ensures { result ≡ seen_held.number_shown chunk.now addr width }
 {
     match chunk {
-        Some(opening) => number_in_chunk(&opening.chunk, (addr % 32) as usize, width),
+        Some(opening) => number_in_chunk(&opening.chunk, (addr % CHUNK_BYTES) as usize, width),
         None => 0,
     }
 }
@@ -45,7 +45,7 @@ fn byte_in(input: &Option<InOpening>, k: u32) -> u32
     ensures { result ≡ seen_held.opened_byte input.now k }
 {
     match input {
-        Some(opening) => u32::from(opening.chunk[(k % 32) as usize]),
+        Some(opening) => u32::from(opening.chunk[(k % CHUNK_BYTES) as usize]),
         None => 0,
     }
 }

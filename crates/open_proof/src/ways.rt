@@ -13,7 +13,7 @@ ghost use Rattle.open_proof.specs.Slots as slots;
 ghost use Rattle.open_proof.specs.Slots.{digest_after, digests_after, there};
 
 use crate::called::Called;
-use crate::facts::{Facts, HeldInput, HeldRegisters};
+use crate::facts::{CHUNK_BYTES, Facts, HeldInput, HeldRegisters};
 use digest_core::{Counted, Digester, leaf_text, register_text};
 use merkle_nodes::{climb_counted, climbing_is_opening, joined_text};
 use rd_base::{
@@ -126,7 +126,7 @@ fn chunk_way<'a>(root: Digest32, chunk: &[u8; 32], siblings: &'a [Digest32], pla
 {
     Way {
         text: leaf_text(chunk),
-        index: place / 32,
+        index: place / CHUNK_BYTES,
         siblings,
         root,
     }
@@ -256,7 +256,7 @@ pub fn changed_chunk<'a>(
     ensures { result ≡ slots.changed_chunk root.0 chunk.now addr width value }
 {
     let opening = chunk.as_ref()?;
-    let changed = with_number(opening.chunk, (addr % 32) as usize, width, value);
+    let changed = with_number(opening.chunk, (addr % CHUNK_BYTES) as usize, width, value);
     Some(chunk_way(root, &changed, &opening.path.0, addr))
 }
 

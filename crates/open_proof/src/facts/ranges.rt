@@ -1,8 +1,7 @@
 //! What the fields of a proof are by their types.
 ghost use Rattle.std.specs.Prelude.{◌≡◌, true, length};
-ghost use Rattle.open_proof.specs.InRange.{are_digests, are_facts_in_range, are_openings_in_range, are_registers_in_range, are_words, is_ctl_in_range, is_in_range, is_input_in_range, is_opening_in_range, is_tree_in_range};
+ghost use Rattle.open_proof.specs.InRange.{are_digests, are_openings_in_range, are_words, is_ctl_in_range, is_in_range, is_input_in_range, is_opening_in_range};
 
-use crate::facts::{Facts, HeldInput, HeldRegisters, facts_of};
 use digest_core::{codes_fit, digests_are_32_bytes};
 use rd_base::{Ctl, Digest32, InOpening, Opening, Proof, RegOpening, Regs, registers_are_32};
 
@@ -77,49 +76,37 @@ fn each_is_in_range(openings: &[RegOpening])
     }
 }
 
-/// Held registers are in the ranges of their types.
-fn registers_are_in_range(regs: &HeldRegisters)
-    ensures { are_registers_in_range regs.now ≡ true }
-{
-    match regs {
-        HeldRegisters::Whole(regs) => files_are_in_range(regs),
-        HeldRegisters::Opened(root, named) => {
-            digests_are_32_bytes(root);
-            each_is_in_range(named.as_slice());
-        }
-    }
-}
-
-/// What is held of the input is in the ranges of its types.
-fn trees_are_in_range(tree: &Option<HeldInput>)
-    ensures { is_tree_in_range tree.now ≡ true }
-{
-    match tree {
-        Some(tree) => {
-            let _len = tree.len;
-            digests_are_32_bytes(&tree.root);
-        }
-        None => {}
-    }
-}
-
-/// What a proof holds is in the ranges of its types.
-#[tactic(auto, unfolding(crate::specs::InRange::are_facts_in_range))]
-fn facts_are_in_range(facts: &Facts)
-    ensures { are_facts_in_range facts.now ≡ true }
-{
-    digests_are_32_bytes(&facts.mem);
-    trees_are_in_range(&facts.input_tree);
-    registers_are_in_range(&facts.regs);
-    ctls_are_in_range(&facts.ctl);
-    openings_are_in_range(&facts.fetch);
-    openings_are_in_range(&facts.operand);
-    inputs_are_in_range(&facts.input);
-}
-
 /// Each proof that a program holds is in the ranges of its types.
+#[tactic(auto, unfolding(crate::specs::InRange::are_facts_in_range))]
 pub fn proofs_are_in_range(proof: &Proof)
     ensures { is_in_range proof.now ≡ true }
 {
-    facts_are_in_range(&facts_of(proof));
+    match proof {
+        Proof::V1(p) => {
+            digests_are_32_bytes(&p.mem);
+            files_are_in_range(&p.regs);
+            ctls_are_in_range(&p.ctl);
+            openings_are_in_range(&p.fetch);
+            openings_are_in_range(&p.operand);
+        }
+        Proof::V2(p) => {
+            digests_are_32_bytes(&p.mem);
+            digests_are_32_bytes(&p.regs);
+            each_is_in_range(p.named.as_slice());
+            ctls_are_in_range(&p.ctl);
+            openings_are_in_range(&p.fetch);
+            openings_are_in_range(&p.operand);
+        }
+        Proof::V3(p) => {
+            let _len = p.input_len;
+            digests_are_32_bytes(&p.mem);
+            digests_are_32_bytes(&p.input_root);
+            digests_are_32_bytes(&p.regs);
+            each_is_in_range(p.named.as_slice());
+            ctls_are_in_range(&p.ctl);
+            openings_are_in_range(&p.fetch);
+            openings_are_in_range(&p.operand);
+            inputs_are_in_range(&p.input);
+        }
+    }
 }
