@@ -42,6 +42,15 @@ abbrev pub registers_held : (List ℕ → List ℕ) → HeldRegisters → List �
 registers_held digest (Whole xs) = digest (registers_text xs)
 registers_held digest (Opened root named) = root.0
 
+-- how many digests these take: one for each string
+abbrev pub storage_digests : Option HeldInput → ℕ
+storage_digests (Some t) = 1
+storage_digests None = 0
+
+abbrev pub registers_digests : HeldRegisters → ℕ
+registers_digests (Whole xs) = 1
+registers_digests (Opened root named) = 0
+
 -- the root of their tree once they hold what they hold in another file: the first opened register that has changed climbs with the
 -- same siblings; a step changes one at most
 abbrev pub root_changed : (List ℕ → List ℕ) → List ℕ → List ℕ → List RegOpening → List ℕ → List ℕ → List ℕ

@@ -15,46 +15,37 @@ mod walking;
 use crate::called::called_by;
 use crate::collision::walking::{slot_collision, slots_collision, text_collision};
 use crate::facts::{Facts, HeldInput, HeldRegisters, facts_of, proofs_are_in_range};
+use crate::parts::text_before;
 use crate::ways::{fetch_way, named_ways, operand_way, read_way};
 use digest_core::{Digester, control_text, registers_text, storage_text};
 pub use laws::proofs_from_one_root;
-use out_chain::parts_text;
-use rd_base::{Ctl, Digest32, OpenText, Proof};
+use rd_base::{Ctl, Digest32, OpenText, Proof, Steps};
+use std::marker::Brand;
+use std::sync::ledger::{Blank, Ledger};
 
-/// The digest of what is stored: the root of memory, or the digest of the storage string.
-fn storage_held<D: Digester>(d: D, tree: &Option<HeldInput>, mem: &Digest32) -> Digest32
-    ensures { result.0 ≡ next.storage_held D.digest_of tree.now mem.now.0 }
-{
-    match tree {
-        Some(tree) => d.digest(storage_text(mem, tree.len, &tree.root).as_slice()),
-        None => *mem,
-    }
-}
-
-/// The digest of the registers: that of their string, or the root that is held.
-fn registers_held<D: Digester>(d: D, regs: &HeldRegisters) -> Digest32
-    ensures { result.0 ≡ next.registers_held D.digest_of regs.now }
-{
-    match regs {
-        HeldRegisters::Whole(regs) => d.digest(registers_text(regs).as_slice()),
-        HeldRegisters::Opened(root, _named) => *root,
-    }
-}
-
-/// The state string that a proof's parts make.
-fn text_before<D: Digester>(d: D, facts: &Facts) -> OpenText
+/// What `text_before` gives, by a counter of its own.
+fn text_in<D: Digester, L: Ledger>(d: D, facts: &Facts, blank: Blank) -> OpenText
+    requires name { blank.name ≡ L.name }
+    requires parts { blank.parts ≡ L.parts }
+    requires one { L.parts ≡ 1 }
     ensures { result ≡ next.text_before D.digest_of facts.now }
 {
-    let storage = storage_held(d, &facts.input_tree, &facts.mem);
-    let registers = registers_held(d, &facts.regs);
-    parts_text(d, storage, registers, &facts.ctl)
+    let mut steps = Steps::<L>::new(blank);
+    text_before(d, facts, &mut steps)
+}
+
+/// The state string that a proof's parts make, uncounted.
+fn state_string<D: Digester>(d: D, facts: &Facts) -> OpenText
+    ensures { result ≡ next.text_before D.digest_of facts.now }
+{
+    text_in::<D, Brand>(d, facts, Blank::new(1))
 }
 
 /// The state strings of two proofs, if they differ and have one digest.
 fn state_collision<D: Digester>(d: D, x: &Facts, y: &Facts) -> Option<(OpenText, OpenText)>
     ensures { result ≡ first_collision D.digest_of (next.text_before D.digest_of x.now ∷ []) (next.text_before D.digest_of y.now ∷ []) }
 {
-    text_collision(d, text_before(d, x), text_before(d, y))
+    text_collision(d, state_string(d, x), state_string(d, y))
 }
 
 /// The storage strings, if both have one.
@@ -161,7 +152,7 @@ fn opened_collision<D: Digester>(d: D, x: &Facts, y: &Facts) -> Option<(OpenText
 fn opens_in<D: Digester>(d: D, version: u32, a: &Digest32, facts: &Facts) -> bool
     ensures { result ≡ collision.opens_in D.digest_of version a.now facts.now }
 {
-    facts.version == version && a.0 == d.digest(text_before(d, facts).as_slice()).0
+    facts.version == version && a.0 == d.digest(state_string(d, facts).as_slice()).0
 }
 
 /// The collision of two proofs by its definition.

@@ -6,6 +6,7 @@
 //!   of levels serves memory, registers and input.
 //! - `shown` and `called`: a state as far as a proof shows it answers to a step as a machine does (`ShownState`). So for which openings a
 //!   step calls is asked once, of a proof and of a machine, by the machine's own `fetched` and `next_need`.
+//! - `parts`: the root that a proof's parts make, where each digest is counted.
 //! - `proving`: the two answers that are true of a state, its claim and the plain proof of its step, in the version of the state.
 //! - `collision`: two different proofs that lead from one root open two different strings of one digest, which `step_collision` finds.
 //!
@@ -21,6 +22,7 @@
 mod called;
 mod collision;
 mod facts;
+mod parts;
 mod proving;
 mod shown;
 mod ways;
@@ -32,6 +34,7 @@ pub use facts::{
     plain_proofs_name_registers, proof_of, proofs_are_in_range, proofs_lead_to_the_next_state,
     shown_states_lead,
 };
+pub use parts::{root_before, storage_held};
 pub use proving::{make_claim, make_proof};
 pub use shown::ShownState;
 pub use ways::{
