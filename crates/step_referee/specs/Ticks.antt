@@ -9,11 +9,10 @@ use Rattle.rv_step.specs.declared.effect.Effect.{Effect}
 use Rattle.rv_step.specs.declared.effect.Effect.TheVariants.{Store, Put}
 use Rattle.open_proof.specs.Conditions.{Condition}
 use Rattle.open_proof.specs.Facts.{named_called, file_of_facts, seen_shown}
-use Rattle.open_proof.specs.Next.{held_next}
+use Rattle.open_proof.specs.Next.{storage_digests, registers_digests, held_next}
 use Rattle.open_proof.specs.Openings.{fetch_ways, named_ways, operand_ways, read_ways}
 use Rattle.open_proof.specs.Ways.{ways_digests}
 use Rattle.open_proof.specs.declared.facts.Facts.{Facts}
-use Rattle.open_proof.specs.declared.facts.HeldInput.{HeldInput}
 use Rattle.open_proof.specs.declared.facts.HeldRegisters.{HeldRegisters}
 use Rattle.open_proof.specs.declared.facts.HeldRegisters.TheVariants.{Whole, Opened}
 
@@ -31,15 +30,6 @@ digests_of_effect operand e = 0
 abbrev pub digests_by : Option Opening → Option Effect → ℕ
 digests_by operand (Some e) = digests_of_effect operand e
 digests_by operand None = 0
-
--- one digest for the storage string, and one for the registers string; a root that a proof holds takes none
-abbrev pub storage_digests : Option HeldInput → ℕ
-storage_digests (Some t) = 1
-storage_digests None = 0
-
-abbrev pub registers_digests : HeldRegisters → ℕ
-registers_digests (Whole xs) = 1
-registers_digests (Opened root named) = 0
 
 -- 6 digests for the opened register that a step has changed
 abbrev pub changed_digests : List ℕ → List RegOpening → List ℕ → List ℕ → ℕ

@@ -5,10 +5,11 @@ ghost use Rattle.open_proof.specs.Conditions.{FirstFails, LeadsFrom, conditions}
 ghost use Rattle.open_proof.specs.Conditions.Refusal.{opening, shape};
 ghost use Rattle.open_proof.specs.Facts as facts_of_proof;
 ghost use Rattle.open_proof.specs.Next as next;
+ghost use Rattle.open_proof.specs.Next.{registers_digests, storage_digests};
 ghost use Rattle.open_proof.specs.Openings as openings;
 ghost use Rattle.step_referee.specs.Tests as tests;
 ghost use Rattle.step_referee.specs.Tests.{checked, checked_ticks};
-ghost use Rattle.step_referee.specs.Ticks.{TicksUntil, condition_digests, step_ticks, most_alone, most_ticks, opening_digests, registers_changed_digests, registers_digests, storage_digests, ticks_of};
+ghost use Rattle.step_referee.specs.Ticks.{TicksUntil, condition_digests, step_ticks, most_alone, most_ticks, opening_digests, registers_changed_digests, ticks_of};
 ghost use Rattle.out_chain.specs.Root as roots;
 ghost use Rattle.rv_step.specs.Named.{AreRegisters};
 ghost use Rattle.rv_step.specs.State.{State};
@@ -21,12 +22,12 @@ mod carrying;
 mod laws;
 
 use crate::check::carrying::step_on;
-use digest_core::{Counted, Digester, control_text, registers_text, state_text, storage_text};
+use digest_core::{Counted, Digester, control_text, registers_text, state_text};
 pub use laws::leading_is_decided;
 use open_proof::{
-    Called, Facts, HeldInput, HeldRegisters, ShownState, called_by, changed_register, facts_of,
-    fetch_way, named_ways, operand_way, proofs_are_in_range, proofs_lead_to_the_next_state,
-    read_way, root_after, ways_climb,
+    Called, Facts, HeldRegisters, ShownState, called_by, changed_register, facts_of, fetch_way,
+    named_ways, operand_way, proofs_are_in_range, proofs_lead_to_the_next_state, read_way,
+    root_after, root_before, storage_held, ways_climb,
 };
 use rd_base::{Ctl, Digest32, Proof, Regs, Steps, same_digest};
 use rv_step::names_are_registers;
@@ -42,16 +43,6 @@ pub enum StepCheck {
     NotOpen,
     /// It is of another version, or an opening is missing, or one is there that isn't called for.
     WrongShape,
-}
-
-/// The root that a proof's parts make.
-fn root_before<C: Counted, L: Ledger>(c: C, facts: &Facts, steps: &mut Steps<L>) -> Digest32
-    ensures digest { result.0 ≡ next.root_before C.digest_of facts.now }
-    ensures steps { steps.new ≡ steps.old + registers_digests facts.now.regs + storage_digests facts.now.input_tree + 2 }
-{
-    let regs = registers_held(c, &facts.regs, steps);
-    let storage = storage_held(c, &facts.input_tree, &facts.mem, steps);
-    root_of(c, &storage, &regs, &facts.ctl, steps)
 }
 
 /// Whether a proof's parts make a root.
@@ -195,37 +186,6 @@ pub fn check_step<D: Digester, L: Ledger>(
     proofs_are_in_range(proof);
     let facts = facts_of(proof);
     check_facts(d, version, a, &facts, steps)
-}
-
-/// The digest of what is stored: the root of memory, or the digest of the storage string.
-fn storage_held<C: Counted, L: Ledger>(
-    c: C,
-    tree: &Option<HeldInput>,
-    mem: &Digest32,
-    steps: &mut Steps<L>,
-) -> Digest32
-    ensures digest { result.0 ≡ next.storage_held C.digest_of tree.now mem.now.0 }
-    ensures steps { steps.new ≡ steps.old + storage_digests tree.now }
-{
-    match tree {
-        Some(tree) => c.digest(&storage_text(mem, tree.len, &tree.root), steps),
-        None => *mem,
-    }
-}
-
-/// The digest of the registers: that of their string, or the root that is held.
-fn registers_held<C: Counted, L: Ledger>(
-    c: C,
-    regs: &HeldRegisters,
-    steps: &mut Steps<L>,
-) -> Digest32
-    ensures digest { result.0 ≡ next.registers_held C.digest_of regs.now }
-    ensures steps { steps.new ≡ steps.old + registers_digests regs.now }
-{
-    match regs {
-        HeldRegisters::Whole(regs) => c.digest(&registers_text(regs), steps),
-        HeldRegisters::Opened(root, _named) => *root,
-    }
 }
 
 /// The digest of the registers after a step: that of their string, or the root of their tree with the one register changed that the
