@@ -13,11 +13,11 @@
 //! (`found_at` in `specs/Keeping.antt`).
 //!
 //! The output is kept once in a run. A checkpoint takes one version of each page that was written since the checkpoint before, and of no
-//! other (the clauses of `add_checkpoint` and `note_changed_page`); `specs/WrittenPages.antt` defines which pages a step writes. So, beside the versions
-//! of the first checkpoint, a run keeps no more versions than pages are written, which is a part of the invariant of `Run` (`few` in
-//! `specs/Keeping.antt`); the code of `record_run` shows that the first checkpoint has those of the pages in use at step 0 (`used_pages`,
-//! clause `only`). The page of a checkpoint is found by a search among the places of the page's versions (`last_below`). The code of
-//! `checkpoint` shows how much other memory a checkpoint takes. Read `specs/TamperedRun.antt` first, then `run`, then `recording`.
+//! other (the clauses of `add_checkpoint` and `note_changed_page`); `specs/WrittenPages.antt` defines which pages a step writes. So, beside
+//! the versions of the first checkpoint, a run keeps no more versions than pages are written, which is a part of the invariant of `Run`
+//! (`few` in `specs/Keeping.antt`); the code of `record_run` shows that the first checkpoint has those of the pages in use at step 0
+//! (`used_pages`, clause `only`). The page of a checkpoint is found by a search among the places of the page's versions (`last_below`). The
+//! code of `checkpoint` shows how much other memory a checkpoint takes. Read `specs/TamperedRun.antt` first, then `run`, then `recording`.
 //! An `Err` that no comment names is out of memory.
 #![tactic(auto)]
 

@@ -177,8 +177,8 @@ impl Nodes {
         Some(c.digest(&text, steps))
     }
 
-    /// Puts a page's subtree and its root into their places; the nodes above it stay. An `Err` is out of memory, and leaves all other pages and
-    /// nodes.
+    /// Puts a page's subtree and its root into their places; the nodes above it stay. An `Err` is out of memory, and leaves all other pages
+    /// and nodes.
     pub(crate) fn set_page<C: Counted>(
         &mut self,
         _c: C,
