@@ -1,5 +1,12 @@
 -- A recorded run is a prover's, by its states and its bound.
-use Rattle.std.proofs.Common.{◌+◌, ◌≡◌, ◌^◌, ◌≤◌, ◌<◌, ℕ, zero, suc, List, [], ◌∷◌, length, map, min, slice_index, slice_index_or, refl, sym, ap, ap₂, ◌∙◌, arith}
+use Rattle.std.proofs.Common.{◌+◌, ◌≡◌, ◌^◌, ◌≤◌, ◌<◌, ℕ, zero, suc, List, [], ◌∷◌, length, map, min, slice_index, slice_index_or, Option, Some, Iter, Bor, refl, sym, ap, ap₂, ◌∙◌, arith}
+use Rattle.std.specs.declared.iter.Zip.{Zip}
+use Rattle.std.specs.Iterator.{Yields}
+use Rattle.std.specs.Iterator.Adapters.{zip_first, zip_second}
+use Rattle.std.specs.Slice.Iter.{iter_rest}
+use Rattle.std.proofs.iter.Yields.{fronts}
+use Rattle.std.proofs.lemmas.Iterator.{zips}
+use Rattle.std.proofs.lemmas.Slice.Zip.{zip_turn}
 use Rattle.rd_base.specs.declared.digest.Digest32.{Digest32}
 use Rattle.rd_base.specs.declared.answer.Answer.TheVariants as answer
 use Rattle.rv_step.specs.State.{State}
@@ -27,6 +34,14 @@ root_of_place root [] roots place d same inside = absurd (omega arith)
 root_of_place root (x ∷ xs) [] place d same inside = absurd (cc)
 root_of_place root (x ∷ xs) (r ∷ rs) zero d same inside = cc
 root_of_place root (x ∷ xs) (r ∷ rs) (suc place) d same inside = root_of_place root xs rs place d (cc) (omega arith)
+
+-- and the one beside a step, where a loop goes through steps and roots
+pub root_beside : (root : ℕ → List ℕ) (steps : List ℕ) (roots : List Digest32) (before : List (Bor ℕ × Bor Digest32)) (all left later : Zip (Iter ℕ) (Iter Digest32)) (next : Option (Bor ℕ × Bor Digest32)) (step : Bor ℕ) (d : Bor Digest32)
+    → digests roots ≡ map root steps → iter_rest (zip_first all) ≡ steps → iter_rest (zip_second all) ≡ roots → Yields (zips fronts fronts) all before left → next ≡ Some (step, d) → zips fronts fronts left next later
+    → d.now.0 ≡ root step.now
+root_beside root steps roots before all left later next step d same first second yields is goes =
+    let at = zip_turn steps roots before all left later next first second yields (step, d) is goes in
+    ap (λ (x : Digest32). x.0) (at.3 d.now) ∙ root_of_place root steps roots (length before) d.now same at.0 ∙ ap root (sym (at.2 0))
 
 -- the states of a recorded run, by its first state and its tamper
 pub states_of : (p : Prover) (r : Recorded) → r.first ≡ tampered p.tamper 0 p.start → r.tamper ≡ p.tamper → state_of_step r ≡ run_of p

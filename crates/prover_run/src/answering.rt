@@ -38,55 +38,51 @@ pub struct RunReader<D: Replays> {
 }
 
 /// Keeps the root of a step.
-fn keep(kept: &mut BTreeMap<u64, Digest32>, step: u64, root: Digest32) -> Result<(), Memory>
-    ensures { (roots : ℕ → List ℕ) → root.0 ≡ roots step → AreKept roots kept.old.entries → AreKept roots kept.new.entries }
+fn keep_root(roots: &mut BTreeMap<u64, Digest32>, step: u64, digest: Digest32) -> Result<(), Memory>
+    ensures { (root : ℕ → List ℕ) → digest.0 ≡ root step → AreKept root roots.old.entries → AreKept root roots.new.entries }
 {
-    kept.insert(step, root)?;
+    roots.insert(step, digest)?;
+    Ok(())
+}
+
+/// Keeps the roots of steps, which are in the same order. An `Err` is out of memory, after some were kept.
+fn keep_roots(
+    roots: &mut BTreeMap<u64, Digest32>,
+    steps: &[u64],
+    made: &[Digest32],
+) -> Result<(), Memory>
+    ensures { (root : ℕ → List ℕ) → digests made.now ≡ map root steps.now → AreKept root roots.old.entries → AreKept root roots.new.entries }
+{
+    'steps: for (step, digest) in steps.iter().zip(made) {
+        keep_root(roots, *step, *digest)?;
+    }
     Ok(())
 }
 
 /// The root of a step, if it is kept.
-fn kept_root(kept: &BTreeMap<u64, Digest32>, step: u64) -> Option<Digest32>
-    ensures { (root : ℕ → List ℕ) → AreKept root kept.now.entries → IfSome result (λ r. r.0 ≡ root step) }
+fn kept_root(roots: &BTreeMap<u64, Digest32>, step: u64) -> Option<Digest32>
+    ensures { (root : ℕ → List ℕ) → AreKept root roots.now.entries → IfSome result (λ r. r.0 ≡ root step) }
 {
-    kept.get(&step).copied()
+    roots.get(&step).copied()
 }
 
 /// The roots of steps, in their order, if all of them are kept.
 fn kept_roots(
     alloc: Global,
-    kept: &BTreeMap<u64, Digest32>,
+    roots: &BTreeMap<u64, Digest32>,
     steps: &[u64],
 ) -> Result<Option<Vec<Digest32>>, Memory>
     ensures count { IfOk result (λ found. IfSome found (λ v. length v.items ≡ length steps.now)) }
-    ensures roots { (root : ℕ → List ℕ) → AreKept root kept.now.entries → IfOk result (λ found. IfSome found (λ v. digests v.items ≡ map root steps.now)) }
+    ensures roots { (root : ℕ → List ℕ) → AreKept root roots.now.entries → IfOk result (λ found. IfSome found (λ v. digests v.items ≡ map root steps.now)) }
 {
-    let mut roots = Vec::new(alloc);
+    let mut found = Vec::new(alloc);
     'steps: for step in steps {
-        let Some(root) = kept_root(kept, *step) else {
+        let Some(root) = kept_root(roots, *step) else {
             return Ok(None);
         };
-        roots.push(root)?;
+        found.push(root)?;
     }
-    Ok(Some(roots))
-}
-
-/// Keeps the roots of steps, which are in the same order. An `Err` is out of memory, after some were kept.
-fn keep_all(
-    kept: &mut BTreeMap<u64, Digest32>,
-    steps: &[u64],
-    roots: &[Digest32],
-) -> Result<(), Memory>
-    ensures { (root : ℕ → List ℕ) → digests roots.now ≡ map root steps.now → AreKept root kept.old.entries → AreKept root kept.new.entries }
-{
-    let [step, later_steps @ ..] = steps else {
-        return Ok(());
-    };
-    let [root, later_roots @ ..] = roots else {
-        return Ok(());
-    };
-    keep(kept, *step, *root)?;
-    keep_all(kept, later_steps, later_roots)
+    Ok(Some(found))
 }
 
 /// The roots of steps, in their order, which are kept, or else are made in one go and kept.
@@ -95,51 +91,51 @@ fn roots_of_steps<D: Replays, R: Threads + Sync>(
     rt: &R,
     reader: &RunReader<D>,
     run: &mut KeptRun<D>,
-    kept: &mut BTreeMap<u64, Digest32>,
+    roots: &mut BTreeMap<u64, Digest32>,
     steps: &[u64],
 ) -> Result<Vec<Digest32>, Memory>
     requires sync { IsSync R.row }
     ensures count { IfOk result (λ v. length v.items ≡ length steps.now) }
-    ensures kept { (root : ℕ → List ℕ) → root ≡ root_at D.digest_of run.old → AreKept root kept.old.entries → AreKept root kept.new.entries }
-    ensures roots { (root : ℕ → List ℕ) → root ≡ root_at D.digest_of run.old → AreKept root kept.old.entries → IfOk result (λ v. digests v.items ≡ map root steps.now) }
+    ensures kept { (root : ℕ → List ℕ) → root ≡ root_at D.digest_of run.old → AreKept root roots.old.entries → AreKept root roots.new.entries }
+    ensures roots { (root : ℕ → List ℕ) → root ≡ root_at D.digest_of run.old → AreKept root roots.old.entries → IfOk result (λ v. digests v.items ≡ map root steps.now) }
     ensures run { run.new ≡ run.old }
 {
     let RunReader { alloc, d, plan } = *reader;
-    if let Some(roots) = kept_roots(alloc, kept, steps)? {
-        return Ok(roots);
+    if let Some(found) = kept_roots(alloc, roots, steps)? {
+        return Ok(found);
     }
-    let roots = d.roots_of(rt, alloc, run, steps, plan.workers)?;
-    keep_all(kept, steps, &roots)?;
-    Ok(roots)
+    let made = d.roots_of(rt, alloc, run, steps, plan.workers)?;
+    keep_roots(roots, steps, &made)?;
+    Ok(made)
 }
 
-/// The plain answer of a prover to what is asked, read off its recorded run. Its last output is at most 4,294,967,295 bytes
-/// long.
+/// The plain answer of a prover to what is asked, read off its recorded run, whose last output has at most 4,294,967,295 bytes. The roots that
+/// are kept are those of the run also after an `Err`, which is out of memory.
 #[tactic(auto, using(crate::proofs::RunLemmas::roots_of_run, crate::proofs::RunLemmas::answers_of_run), unfolding(crate::specs::Prover::root_of))]
 pub fn plain_answer<D: Replays, R: Threads + Sync>(
     rt: &R,
     reader: &RunReader<D>,
     run: &mut KeptRun<D>,
-    kept: &mut BTreeMap<u64, Digest32>,
+    roots: &mut BTreeMap<u64, Digest32>,
     kind: Kind,
 ) -> Result<Answer, Memory>
     requires sync { IsSync R.row }
     requires short { length (state_of_step run.old run.old.bound).output ≤ 4294967295 }
-    ensures kept { (p : Prover) → IsRunOf D.digest_of p run.old → AreKept (root_of D.digest_of p) kept.old.entries → AreKept (root_of D.digest_of p) kept.new.entries }
-    ensures answer { (p : Prover) → IsRunOf D.digest_of p run.old → AreKept (root_of D.digest_of p) kept.old.entries →
+    ensures kept { (p : Prover) → IsRunOf D.digest_of p run.old → AreKept (root_of D.digest_of p) roots.old.entries → AreKept (root_of D.digest_of p) roots.new.entries }
+    ensures answer { (p : Prover) → IsRunOf D.digest_of p run.old → AreKept (root_of D.digest_of p) roots.old.entries →
         IfOk result (λ a. a ≡ plain.plain D.digest_of (run_of p) p.bound kind) }
     ensures run { run.new ≡ run.old }
 {
     let RunReader { alloc, d, .. } = *reader;
     match kind {
         Kind::Root(step) => {
-            let roots = roots_of_steps(rt, reader, run, kept, &[step])?;
-            Ok(Answer::Root(roots[0]))
+            let found = roots_of_steps(rt, reader, run, roots, &[step])?;
+            Ok(Answer::Root(found[0]))
         }
         Kind::Roots { lo, hi, parts } => {
             let steps = steps_asked(alloc, lo, hi, parts)?;
-            let roots = roots_of_steps(rt, reader, run, kept, &steps)?;
-            Ok(Answer::Roots(RootList::new(roots).unwrap()))
+            let found = roots_of_steps(rt, reader, run, roots, &steps)?;
+            Ok(Answer::Roots(RootList::new(found).unwrap()))
         }
         Kind::Claim => {
             let bound = run.run().bound();

@@ -47,10 +47,11 @@ impl<D: Replays> Model for RunAnswerer<D> {
 }
 
 impl<D: Replays> RunAnswerer<D> {
-    /// A prover whose run goes from a machine, with this tamper, up to the step `bound`, below 2^32. As the code shows, its run is
-    /// recorded with a checkpoint at every `every` steps (at least 1), and the roots that one question asks are made in at most `workers`
-    /// pieces (at least 1), side by side. The bytes of the machine's output and a byte more for each step are fewer than 2^32, and the
-    /// machine's chain is that of its output by the digester `d`.
+    /// A prover whose run goes from a machine, with this tamper, up to the step `bound`, below 2^32. The bytes of the machine's output and
+    /// a byte more for each step are fewer than 2^32, and the machine's chain is that of its output by the digester `d`.
+    ///
+    /// Its run is recorded with a checkpoint at every `every` steps (at least 1), and the roots that one question asks for are made in at
+    /// most `workers` pieces (at least 1), side by side (not proved; seen in the code).
     pub fn new(
         alloc: Global,
         d: D,
@@ -76,7 +77,7 @@ impl<D: Replays> RunAnswerer<D> {
         RunAnswerer::with_input(alloc, d, machine, input, tamper, plan)
     }
 
-    /// `new`, from the tree of the machine's input, so that, as the code shows, no part of the input is digested.
+    /// `new`, with the tree of the machine's input at hand, so that no part of the input is digested (not proved; seen in the code).
     pub fn with_input(
         alloc: Global,
         d: D,

@@ -71,7 +71,7 @@ impl<'m, D: Digester> Start<'m, D> {
 }
 
 /// What fixes what the provers of a case say: the state from which the runs start, the bound, and the scripts. It is data of
-/// contracts alone: no program makes one.
+/// contracts only: no program makes one.
 #[derive(Clone, Copy, Debug)]
 pub struct CaseNames {
     never: u8,
@@ -94,7 +94,7 @@ impl Model for CaseNames {
 }
 
 /// The provers of a case. The code asks only how many there are and how each one waits, for which it needs their scripts; the rest is
-/// there for contracts alone.
+/// there for contracts only.
 ///
 /// Contracts see them as the state from which their runs start, the bound, and their scripts.
 #[derive(Drop)]
@@ -213,8 +213,8 @@ fn put_answerers<D: Replays>(
     put_answerers(alloc, d, rest, start, plan, answerers)
 }
 
-/// The answerers of the provers with these scripts, in their order, whose runs start there and go by this plan. As the code shows, no
-/// part of the input is digested.
+/// The answerers of the provers with these scripts, in their order, whose runs start there and go by this plan. No part of the input is
+/// digested (not proved; seen in the code).
 pub fn answerers_with_input<D: Replays>(
     alloc: Global,
     d: D,

@@ -5,6 +5,6 @@ use Rattle.prover_run.proofs.answering.kept_roots.Given as goal
 
 abbrev pub invariant-steps : goal.invariant-steps
 invariant-steps l = record {
-  count : length l.roots.items ≡ l.step-index;
-  so_far : (root : ℕ → List ℕ) → AreKept root l.kept.entries → digests l.roots.items ≡ map root (take l.step-index l.steps);
+  count : length l.found.items ≡ l.step-index;
+  so_far : (root : ℕ → List ℕ) → AreKept root l.roots.entries → digests l.found.items ≡ map root (take l.step-index l.steps);
 }

@@ -6,7 +6,7 @@ use Rattle.std.proofs.lemmas.Bool.{cases_eq, eq-eqb, ne_eqb}
 use Rattle.std.proofs.lemmas.Bool.Decides.{nat_tests}
 use Rattle.rd_base.specs.declared.digest.Digest32.{Digest32}
 use Rattle.prover_run.specs.Prover.{AreKept}
-use Rattle.prover_run.proofs.answering.keep.Goals as goal
+use Rattle.prover_run.proofs.answering.keep_root.Goals as goal
 
 is_at-eqb : (key x : ℕ) → is_at (nat_cmp key) x ≡ eqb x key
 is_at-eqb key x = grind (arith, nat_tests)
@@ -22,5 +22,5 @@ put root key value old new updates is were i =
     (cases_eq i key))
 
 pub returns : goal.returns
-returns c roots same were =
-    put roots c.args.step c.args.root c.args.kept.now.entries c.insert.new.self.entries c.in_ok-insert.ensures.updates.0 same were
+returns c root same were =
+    put root c.args.step c.args.digest c.args.roots.now.entries c.insert.new.self.entries c.in_ok-insert.ensures.updates.0 same were
