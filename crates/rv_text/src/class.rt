@@ -24,6 +24,18 @@ pub enum Class {
     Line,
 }
 
+/// The longest run of such characters that a text begins with, and what is behind it.
+pub fn split_run(text: &[u8], class: Class) -> (&[u8], &[u8])
+    ensures run { result.0.now ≡ run (the_is_of class) text.now }
+    ensures behind { result.1.now ≡ behind (the_is_of class) text.now }
+{
+    let mut n = 0;
+    while n < text.len() && is_of(class, text[n]) {
+        n += 1;
+    }
+    (&text[..n], &text[n..])
+}
+
 /// Whether a character is of a class.
 fn is_of(class: Class, c: u8) -> bool
     ensures { result ≡ the_is_of class c }
@@ -38,27 +50,6 @@ fn is_of(class: Class, c: u8) -> bool
         Class::Code => c != b'#',
         Class::Line => c != b'\n',
     }
-}
-
-/// The longest run of such characters that a text begins with, and what is behind it.
-pub fn split_run(text: &[u8], class: Class) -> (&[u8], &[u8])
-    ensures run { result.0.now ≡ run (the_is_of class) text.now }
-    ensures behind { result.1.now ≡ behind (the_is_of class) text.now }
-{
-    let mut n = 0;
-    while n < text.len() && is_of(class, text[n]) {
-        n += 1;
-    }
-    (&text[..n], &text[n..])
-}
-
-/// Whether all characters are of a class.
-#[tactic(auto, using(crate::proofs::Runs::every_rules))]
-pub fn is_every(text: &[u8], class: Class) -> bool
-    ensures { result ≡ every (the_is_of class) text.now }
-{
-    let (_, rest) = split_run(text, class);
-    rest.is_empty()
 }
 
 /// The text without the blanks that it begins with.
@@ -79,4 +70,13 @@ pub fn is_name(text: &[u8]) -> bool
         }
         [] => false,
     }
+}
+
+/// Whether all characters are of a class.
+#[tactic(auto, using(crate::proofs::Runs::every_rules))]
+pub fn is_every(text: &[u8], class: Class) -> bool
+    ensures { result ≡ every (the_is_of class) text.now }
+{
+    let (_, rest) = split_run(text, class);
+    rest.is_empty()
 }

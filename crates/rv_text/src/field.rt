@@ -56,6 +56,25 @@ pub fn is_target(field: Field) -> bool
     matches!(field, Field::BranchTarget | Field::JumpTarget)
 }
 
+/// The bits of a field's value in the word.
+pub fn placed_at(field: Field, value: i64) -> u32
+    requires { the_is_in field value ≡ true }
+    ensures placed { result ≡ the_placed_at field value }
+    ensures most { result ≤ most_at field }
+{
+    match field {
+        Field::Rd => (value as u32) << 7,
+        Field::Rs1 => (value as u32) << 15,
+        Field::Rs2 | Field::Shift => (value as u32) << 20,
+        Field::Immediate => twos_complement(12, value) << 20,
+        Field::StoreOffset => store_bits(twos_complement(12, value)),
+        Field::BranchTarget => branch_bits(twos_complement(13, value)),
+        Field::JumpTarget => jump_bits(twos_complement(21, value)),
+        Field::Upper => (value as u32) << 12,
+        Field::Word => value as u32,
+    }
+}
+
 /// A number in two's complement of this many bits.
 fn twos_complement(width: u32, value: i64) -> u32
     requires width_to { width ≤ 31 }
@@ -91,23 +110,4 @@ fn jump_bits(n: u32) -> u32
     ensures { result ≡ the_jump_bits n }
 {
     (n / 4_096 % 256 << 12) + (n / 2_048 % 2 << 20) + (n / 2 % 1_024 << 21) + (n / 1_048_576 << 31)
-}
-
-/// The bits of a field's value in the word.
-pub fn placed_at(field: Field, value: i64) -> u32
-    requires { the_is_in field value ≡ true }
-    ensures placed { result ≡ the_placed_at field value }
-    ensures most { result ≤ most_at field }
-{
-    match field {
-        Field::Rd => (value as u32) << 7,
-        Field::Rs1 => (value as u32) << 15,
-        Field::Rs2 | Field::Shift => (value as u32) << 20,
-        Field::Immediate => twos_complement(12, value) << 20,
-        Field::StoreOffset => store_bits(twos_complement(12, value)),
-        Field::BranchTarget => branch_bits(twos_complement(13, value)),
-        Field::JumpTarget => jump_bits(twos_complement(21, value)),
-        Field::Upper => (value as u32) << 12,
-        Field::Word => value as u32,
-    }
 }

@@ -8,74 +8,6 @@ use rv_decode::{BType, IType, Instr, JType, RType, SType, ShiftType, UType};
 use std::alloc::AllocError;
 use std::fmt::Write;
 
-/// Adds a mnemonic with `rd, rs1, rs2`.
-fn add_registers(text: &mut String, name: &str, t: RType) -> Result<(), AllocError>
-    ensures { OnOk result (string_bytes text.new ≡ string_bytes text.old ++ spelling_text (spelled_registers name.now t)) }
-{
-    write!(text, "{name} x{}, x{}, x{}", t.rd, t.rs1, t.rs2)
-}
-
-/// Adds a mnemonic with `rd, rs1, imm`.
-fn add_immediate(text: &mut String, name: &str, t: IType) -> Result<(), AllocError>
-    ensures { OnOk result (string_bytes text.new ≡ string_bytes text.old ++ spelling_text (spelled_immediate name.now t)) }
-{
-    write!(text, "{name} x{}, x{}, {}", t.rd, t.rs1, t.imm)
-}
-
-/// Adds a mnemonic with `rd, rs1, shamt`.
-fn add_shifted(text: &mut String, name: &str, t: ShiftType) -> Result<(), AllocError>
-    ensures { OnOk result (string_bytes text.new ≡ string_bytes text.old ++ spelling_text (spelled_shifted name.now t)) }
-{
-    write!(text, "{name} x{}, x{}, {}", t.rd, t.rs1, t.imm)
-}
-
-/// Adds a mnemonic with `rd, imm(rs1)`.
-fn add_based(text: &mut String, name: &str, t: IType) -> Result<(), AllocError>
-    ensures { OnOk result (string_bytes text.new ≡ string_bytes text.old ++ spelling_text (spelled_based name.now t)) }
-{
-    write!(text, "{name} x{}, {}(x{})", t.rd, t.imm, t.rs1)
-}
-
-/// Adds a mnemonic with `rs2, imm(rs1)`.
-fn add_stored(text: &mut String, name: &str, t: SType) -> Result<(), AllocError>
-    ensures { OnOk result (string_bytes text.new ≡ string_bytes text.old ++ spelling_text (spelled_stored name.now t)) }
-{
-    write!(text, "{name} x{}, {}(x{})", t.rs2, t.imm, t.rs1)
-}
-
-/// Adds a mnemonic with `rs1, rs2, target`.
-fn add_branch(text: &mut String, name: &str, t: BType) -> Result<(), AllocError>
-    ensures { OnOk result (string_bytes text.new ≡ string_bytes text.old ++ spelling_text (spelled_branch name.now t)) }
-{
-    write!(text, "{name} x{}, x{}, {}", t.rs1, t.rs2, t.imm)
-}
-
-/// Adds a mnemonic with `rd, target`.
-fn add_jump(text: &mut String, name: &str, t: JType) -> Result<(), AllocError>
-    ensures { OnOk result (string_bytes text.new ≡ string_bytes text.old ++ spelling_text (spelled_jump name.now t)) }
-{
-    write!(text, "{name} x{}, {}", t.rd, t.imm)
-}
-
-/// The upper twenty bits of a number.
-fn upper_of(imm: i32) -> u32
-    ensures { result ≡ twos_complement 32 imm / 2 ^ 12 }
-{
-    if imm >= 0 {
-        imm as u32 / 4_096
-    } else {
-        1_048_575 - (-1 - imm) as u32 / 4_096
-    }
-}
-
-/// Adds a mnemonic with `rd, imm`.
-fn add_upper(text: &mut String, name: &str, t: UType) -> Result<(), AllocError>
-    ensures { OnOk result (string_bytes text.new ≡ string_bytes text.old ++ spelling_text (spelled_upper name.now t)) }
-{
-    let upper = upper_of(t.imm);
-    write!(text, "{name} x{}, {upper}", t.rd)
-}
-
 /// Adds the line of an instruction that isn't a fence.
 #[tactic(auto, unfolding(crate::specs::Spelling::spelling_of))]
 pub fn add_instruction(text: &mut String, i: Instr) -> Result<(), AllocError>
@@ -131,5 +63,73 @@ pub fn add_instruction(text: &mut String, i: Instr) -> Result<(), AllocError>
         Instr::Fence(_) => Ok(()),
         Instr::Ecall => text.push_str("ecall"),
         Instr::Ebreak => text.push_str("ebreak"),
+    }
+}
+
+/// Adds a mnemonic with `rd, rs1, rs2`.
+fn add_registers(text: &mut String, name: &str, t: RType) -> Result<(), AllocError>
+    ensures { OnOk result (string_bytes text.new ≡ string_bytes text.old ++ spelling_text (spelled_registers name.now t)) }
+{
+    write!(text, "{name} x{}, x{}, x{}", t.rd, t.rs1, t.rs2)
+}
+
+/// Adds a mnemonic with `rd, rs1, imm`.
+fn add_immediate(text: &mut String, name: &str, t: IType) -> Result<(), AllocError>
+    ensures { OnOk result (string_bytes text.new ≡ string_bytes text.old ++ spelling_text (spelled_immediate name.now t)) }
+{
+    write!(text, "{name} x{}, x{}, {}", t.rd, t.rs1, t.imm)
+}
+
+/// Adds a mnemonic with `rd, rs1, shamt`.
+fn add_shifted(text: &mut String, name: &str, t: ShiftType) -> Result<(), AllocError>
+    ensures { OnOk result (string_bytes text.new ≡ string_bytes text.old ++ spelling_text (spelled_shifted name.now t)) }
+{
+    write!(text, "{name} x{}, x{}, {}", t.rd, t.rs1, t.imm)
+}
+
+/// Adds a mnemonic with `rd, imm(rs1)`.
+fn add_based(text: &mut String, name: &str, t: IType) -> Result<(), AllocError>
+    ensures { OnOk result (string_bytes text.new ≡ string_bytes text.old ++ spelling_text (spelled_based name.now t)) }
+{
+    write!(text, "{name} x{}, {}(x{})", t.rd, t.imm, t.rs1)
+}
+
+/// Adds a mnemonic with `rs2, imm(rs1)`.
+fn add_stored(text: &mut String, name: &str, t: SType) -> Result<(), AllocError>
+    ensures { OnOk result (string_bytes text.new ≡ string_bytes text.old ++ spelling_text (spelled_stored name.now t)) }
+{
+    write!(text, "{name} x{}, {}(x{})", t.rs2, t.imm, t.rs1)
+}
+
+/// Adds a mnemonic with `rs1, rs2, target`.
+fn add_branch(text: &mut String, name: &str, t: BType) -> Result<(), AllocError>
+    ensures { OnOk result (string_bytes text.new ≡ string_bytes text.old ++ spelling_text (spelled_branch name.now t)) }
+{
+    write!(text, "{name} x{}, x{}, {}", t.rs1, t.rs2, t.imm)
+}
+
+/// Adds a mnemonic with `rd, target`.
+fn add_jump(text: &mut String, name: &str, t: JType) -> Result<(), AllocError>
+    ensures { OnOk result (string_bytes text.new ≡ string_bytes text.old ++ spelling_text (spelled_jump name.now t)) }
+{
+    write!(text, "{name} x{}, {}", t.rd, t.imm)
+}
+
+/// Adds a mnemonic with `rd, imm`.
+fn add_upper(text: &mut String, name: &str, t: UType) -> Result<(), AllocError>
+    ensures { OnOk result (string_bytes text.new ≡ string_bytes text.old ++ spelling_text (spelled_upper name.now t)) }
+{
+    let upper = upper_of(t.imm);
+    write!(text, "{name} x{}, {upper}", t.rd)
+}
+
+/// The upper twenty bits of a number.
+fn upper_of(imm: i32) -> u32
+    ensures { result ≡ twos_complement 32 imm / 2 ^ 12 }
+{
+    if imm >= 0 {
+        imm as u32 / 4_096
+    } else {
+        1_048_575 - (-1 - imm) as u32 / 4_096
     }
 }

@@ -36,39 +36,14 @@ pub fn split_label(code: &[u8]) -> (Option<&[u8]>, &[u8])
     }
 }
 
-/// Whether there are no slots.
-fn has_none(slots: &[Slot]) -> bool
-    ensures { result ≡ the_has_none slots.now }
-{
-    match slots {
-        [] => true,
-        [_, ..] => false,
-    }
-}
-
-/// Whether a text begins with a blank.
-fn begins_blank(text: &[u8]) -> bool
-    ensures { result ≡ begins is_blank text.now }
+/// The word of the statement behind a line's label, if there is one. An `Err` is the statement's fault.
+#[tactic(auto, unfolding(crate::specs::Lines::word_in))]
+pub fn word_in(text: &[u8], scope: &Scope<'_, '_>) -> Result<Option<u32>, FaultKind>
+    ensures { result ≡ the_word_in (distances_in scope.now) text.now }
 {
     match text {
-        [first, ..] => *first == b' ' || *first == b'\t',
-        [] => false,
-    }
-}
-
-/// The word of a row with the operands of a text.
-#[tactic(auto, using(crate::proofs::digits::SumLemmas::word_rules))]
-fn row_word(row: Row, text: &[u8], scope: &Scope<'_, '_>) -> Result<u32, FaultKind>
-    requires { row.base + most_in (the_slots_of row.form) < 2 ^ 32 }
-    ensures { result ≡ word_of_row (distances_in scope.now) (Some row) text.now }
-{
-    let slots = slots_of(row.form);
-    if !has_none(slots) && !begins_blank(text) {
-        return Err(FaultKind::OtherForm);
-    }
-    match operands_bits(slots, text, scope) {
-        Ok(bits) => Ok(row.base + bits),
-        Err(kind) => Err(kind),
+        [] => Ok(None),
+        _ => Ok(Some(statement_word(text, scope)?)),
     }
 }
 
@@ -86,16 +61,35 @@ fn statement_word(text: &[u8], scope: &Scope<'_, '_>) -> Result<u32, FaultKind>
     }
 }
 
-/// The word of the statement behind a line's label, if there is one. An `Err` is the statement's fault.
-#[tactic(auto, unfolding(crate::specs::Lines::word_in))]
-pub fn word_in(text: &[u8], scope: &Scope<'_, '_>) -> Result<Option<u32>, FaultKind>
-    ensures { result ≡ the_word_in (distances_in scope.now) text.now }
+/// The word of a row with the operands of a text.
+#[tactic(auto, using(crate::proofs::digits::SumLemmas::word_rules))]
+fn row_word(row: Row, text: &[u8], scope: &Scope<'_, '_>) -> Result<u32, FaultKind>
+    requires { row.base + most_in (the_slots_of row.form) < 2 ^ 32 }
+    ensures { result ≡ word_of_row (distances_in scope.now) (Some row) text.now }
+{
+    let slots = slots_of(row.form);
+    if !has_none(slots) && !begins_blank(text) {
+        return Err(FaultKind::OtherForm);
+    }
+    Ok(row.base + operands_bits(slots, text, scope)?)
+}
+
+/// Whether there are no slots.
+fn has_none(slots: &[Slot]) -> bool
+    ensures { result ≡ the_has_none slots.now }
+{
+    match slots {
+        [] => true,
+        [_, ..] => false,
+    }
+}
+
+/// Whether a text begins with a blank.
+fn begins_blank(text: &[u8]) -> bool
+    ensures { result ≡ begins is_blank text.now }
 {
     match text {
-        [] => Ok(None),
-        _ => match statement_word(text, scope) {
-            Ok(word) => Ok(Some(word)),
-            Err(kind) => Err(kind),
-        },
+        [first, ..] => *first == b' ' || *first == b'\t',
+        [] => false,
     }
 }

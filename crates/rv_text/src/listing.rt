@@ -1,6 +1,5 @@
 //! The listing of words.
 ghost use Rattle.std.specs.Prelude.{◌≡◌, ◌++◌, ◌<◌, string_bytes, OnOk, IfOk};
-ghost use Rattle.rv_text.specs.Operands.{hex_digit as the_hex_digit, hex_digits};
 ghost use Rattle.rv_text.specs.Spelling.{raw};
 ghost use Rattle.rv_text.specs.Listing.{spelling_text, line_of, listing};
 
@@ -8,42 +7,32 @@ use crate::instruction::add_instruction;
 use rd_base::Memory;
 use rv_decode::{Instr, decode};
 use std::alloc::{AllocError, Global};
+use std::fmt::Write;
 
 /// What the fence that orders everything keeps of its word.
 const FENCE_ALL: u32 = 0x0ff0_0000;
 
-/// The hexadecimal digits of a word.
-const WORD_DIGITS: usize = 8;
-
-/// A hexadecimal digit in lower case.
-fn hex_digit(digit: u32) -> char
-    requires { digit < 16 }
-    ensures { result ≡ the_hex_digit digit }
+/// The listing of words: a line for each, with its line feed, as in `addi x10, x0, 42`.
+///
+/// Numbers are decimal, and targets are offsets in bytes. A word that is no instruction, or a fence other than `0x0ff0000f`, is
+/// `.word 0x` with eight digits in lower case. `Memory` is out of memory.
+pub fn list(alloc: Global, words: &[u32]) -> Result<Vec<u8>, Memory>
+    ensures { IfOk result (λ text. text.items ≡ listing words.now) }
 {
-    if digit < 10 {
-        (digit as u8 + 48) as char
-    } else {
-        (digit as u8 + 87) as char
-    }
+    let text = list_text(alloc, words)?;
+    Ok(text.into_bytes())
 }
 
-/// Adds this many hexadecimal digits, calling itself once for each.
-fn add_hex(text: &mut String, count: usize, number: u32) -> Result<(), AllocError>
-    ensures { OnOk result (string_bytes text.new ≡ string_bytes text.old ++ hex_digits count number) }
+/// The listing as a string.
+fn list_text(alloc: Global, words: &[u32]) -> Result<String, AllocError>
+    ensures { IfOk result (λ text. string_bytes text ≡ listing words.now) }
 {
-    if count == 0 {
-        return Ok(());
+    let mut text = String::new(alloc);
+    for word in words {
+        add_line(&mut text, *word)?;
+        text.push('\n')?;
     }
-    add_hex(text, count - 1, number / 16)?;
-    text.push(hex_digit(number % 16))
-}
-
-/// Adds the line of a word that is written as such.
-fn add_raw(text: &mut String, word: u32) -> Result<(), AllocError>
-    ensures { OnOk result (string_bytes text.new ≡ string_bytes text.old ++ spelling_text (raw word)) }
-{
-    text.push_str(".word 0x")?;
-    add_hex(text, WORD_DIGITS, word)
+    Ok(text)
 }
 
 /// Adds the line of a word.
@@ -64,25 +53,10 @@ fn add_line(text: &mut String, word: u32) -> Result<(), AllocError>
     }
 }
 
-/// The listing as a string.
-fn list_text(alloc: Global, words: &[u32]) -> Result<String, AllocError>
-    ensures { IfOk result (λ text. string_bytes text ≡ listing words.now) }
+/// Adds the line of a word that is written as such.
+#[tactic(auto, using(crate::proofs::digits::HexLemmas::written_rules))]
+fn add_raw(text: &mut String, word: u32) -> Result<(), AllocError>
+    ensures { OnOk result (string_bytes text.new ≡ string_bytes text.old ++ spelling_text (raw word)) }
 {
-    let mut text = String::new(alloc);
-    for word in words {
-        add_line(&mut text, *word)?;
-        text.push('\n')?;
-    }
-    Ok(text)
-}
-
-/// The listing of words: a line for each, with its line feed, as in `addi x10, x0, 42`.
-///
-/// Numbers are decimal, and targets are offsets in bytes. A word that is no instruction, or a fence other than `0x0ff0000f`, is
-/// `.word 0x` with eight digits in lower case. `Memory` is out of memory.
-pub fn list(alloc: Global, words: &[u32]) -> Result<Vec<u8>, Memory>
-    ensures { IfOk result (λ text. text.items ≡ listing words.now) }
-{
-    let text = list_text(alloc, words)?;
-    Ok(text.into_bytes())
+    write!(text, ".word 0x{word:08x}")
 }

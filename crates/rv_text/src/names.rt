@@ -39,9 +39,6 @@ pub fn distance(scope: &Scope<'_, '_>, name: &[u8]) -> Option<i64>
 {
     match scope {
         Scope::Near => Some(0),
-        Scope::At(places, here) => match place_of(places, name) {
-            Some(there) => Some(there as i64 - *here as i64),
-            None => None,
-        },
+        Scope::At(places, here) => Some(place_of(places, name)? as i64 - *here as i64),
     }
 }

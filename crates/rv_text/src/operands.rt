@@ -15,153 +15,6 @@ use crate::form::{Mark, Slot, character, field_of};
 use crate::names::{Scope, distance};
 use crate::numbers::{number, register_in};
 
-/// A number that must be in its range.
-fn ranged(field: Field, value: i64) -> Result<i64, FaultKind>
-    ensures value { result ≡ the_ranged field value }
-    ensures in_range { IfOk result (λ z. the_is_in field z ≡ true) }
-{
-    if is_in(field, value) {
-        Ok(value)
-    } else {
-        Err(FaultKind::OutOfRange)
-    }
-}
-
-/// The value of a register's operand.
-#[tactic(auto, using(crate::proofs::digits::Ranges::register_rules))]
-fn register_operand(field: Field, text: &[u8]) -> Result<i64, FaultKind>
-    requires { the_is_register field ≡ true }
-    ensures value { result ≡ registered_in text.now }
-    ensures in_range { IfOk result (λ z. the_is_in field z ≡ true) }
-{
-    if !is_name(text) {
-        return Err(FaultKind::OtherForm);
-    }
-    match register_in(text) {
-        Some(n) => Ok(n),
-        None => Err(FaultKind::NoRegister),
-    }
-}
-
-/// The value of a name that stands for a distance.
-fn target_operand(field: Field, name: &[u8], scope: &Scope<'_, '_>) -> Result<i64, FaultKind>
-    ensures value { result ≡ ranged_if_defined field (distances_in scope.now name.now) }
-    ensures in_range { IfOk result (λ z. the_is_in field z ≡ true) }
-{
-    match distance(scope, name) {
-        Some(offset) => ranged(field, offset),
-        None => Err(FaultKind::Undefined),
-    }
-}
-
-/// The value of a number, if there is one.
-fn written(field: Field, number: Option<i64>) -> Result<i64, FaultKind>
-    ensures value { result ≡ the_written field number }
-    ensures in_range { IfOk result (λ z. the_is_in field z ≡ true) }
-{
-    match number {
-        Some(value) => ranged(field, value),
-        None => Err(FaultKind::OtherForm),
-    }
-}
-
-/// The value of a number's operand.
-#[tactic(auto, using(crate::proofs::digits::CappedLemmas::ranged_rules))]
-fn number_operand(field: Field, text: &[u8]) -> Result<i64, FaultKind>
-    ensures value { result ≡ the_written field (number_of_text text.now) }
-    ensures in_range { IfOk result (λ z. the_is_in field z ≡ true) }
-{
-    written(field, number(text))
-}
-
-/// The value of an operand.
-fn operand(field: Field, text: &[u8], scope: &Scope<'_, '_>) -> Result<i64, FaultKind>
-    ensures value { result ≡ operand_in (distances_in scope.now) field text.now }
-    ensures in_range { IfOk result (λ z. the_is_in field z ≡ true) }
-{
-    if is_register(field) {
-        register_operand(field, text)
-    } else if is_target(field) && is_name(text) {
-        target_operand(field, text, scope)
-    } else {
-        number_operand(field, text)
-    }
-}
-
-/// The bits of an operand in the word.
-fn operand_bits(field: Field, text: &[u8], scope: &Scope<'_, '_>) -> Result<u32, FaultKind>
-    ensures bits { result ≡ bits_of field (operand_in (distances_in scope.now) field text.now) }
-    ensures most { IfOk result (λ bits. bits ≤ most_at field) }
-{
-    match operand(field, text, scope) {
-        Ok(value) => Ok(placed_at(field, value)),
-        Err(kind) => Err(kind),
-    }
-}
-
-/// The one of two faults of a line that counts.
-fn earlier(one: FaultKind, other: FaultKind) -> FaultKind
-    ensures { result ≡ the_earlier one other }
-{
-    if other.number() < one.number() {
-        other
-    } else {
-        one
-    }
-}
-
-/// The bits of two parts of the operands, or the fault that counts.
-fn plus(one: Result<u32, FaultKind>, other: Result<u32, FaultKind>) -> Result<u32, FaultKind>
-    requires { IfOk one (λ m. IfOk other (λ n. m + n < 2 ^ 32)) }
-    ensures { result ≡ the_plus one other }
-{
-    match one {
-        Ok(m) => match other {
-            Ok(n) => Ok(m + n),
-            Err(kind) => Err(kind),
-        },
-        Err(kind) => match other {
-            Ok(_) => Err(kind),
-            Err(another) => Err(earlier(kind, another)),
-        },
-    }
-}
-
-/// The characters of the next operand, and what follows them.
-fn split_operand(text: &[u8]) -> (&[u8], &[u8])
-    ensures operand { result.0.now ≡ next_operand text.now }
-    ensures rest { result.1.now ≡ after_operand text.now }
-{
-    let (operand, rest) = split_run(skip(text), Class::Operand);
-    (operand, skip(rest))
-}
-
-/// What follows a mark, if the mark comes next.
-fn after_mark(mark: Mark, text: &[u8]) -> Option<&[u8]>
-    ensures { option_map (λ rest. rest.now) result ≡ the_after_mark mark text.now }
-{
-    match text {
-        [first, rest @ ..] => {
-            if *first == character(mark) {
-                Some(rest)
-            } else {
-                None
-            }
-        }
-        [] => None,
-    }
-}
-
-/// What follows a slot's mark, if it has one.
-fn after_slot(slot: Slot, text: &[u8]) -> Option<&[u8]>
-    ensures { option_map (λ rest. rest.now) result ≡ the_after_slot slot text.now }
-{
-    match slot {
-        Slot::Last(_) => Some(text),
-        Slot::UpTo(_, mark) => after_mark(mark, text),
-    }
-}
-
 /// The bits of the operands that slots ask for. An `Err` is the fault of theirs that counts. It calls itself once for each slot, of which
 /// there are at most three.
 pub fn operands_bits(slots: &[Slot], text: &[u8], scope: &Scope<'_, '_>) -> Result<u32, FaultKind>
@@ -186,5 +39,135 @@ pub fn operands_bits(slots: &[Slot], text: &[u8], scope: &Scope<'_, '_>) -> Resu
             };
             plus(first, more)
         }
+    }
+}
+
+/// The characters of the next operand, and what follows them.
+fn split_operand(text: &[u8]) -> (&[u8], &[u8])
+    ensures operand { result.0.now ≡ next_operand text.now }
+    ensures rest { result.1.now ≡ after_operand text.now }
+{
+    let (operand, rest) = split_run(skip(text), Class::Operand);
+    (operand, skip(rest))
+}
+
+/// The bits of an operand in the word.
+fn operand_bits(field: Field, text: &[u8], scope: &Scope<'_, '_>) -> Result<u32, FaultKind>
+    ensures bits { result ≡ bits_of field (operand_in (distances_in scope.now) field text.now) }
+    ensures most { IfOk result (λ bits. bits ≤ most_at field) }
+{
+    Ok(placed_at(field, operand(field, text, scope)?))
+}
+
+/// The value of an operand.
+fn operand(field: Field, text: &[u8], scope: &Scope<'_, '_>) -> Result<i64, FaultKind>
+    ensures value { result ≡ operand_in (distances_in scope.now) field text.now }
+    ensures in_range { IfOk result (λ z. the_is_in field z ≡ true) }
+{
+    if is_register(field) {
+        register_operand(field, text)
+    } else if is_target(field) && is_name(text) {
+        target_operand(field, text, scope)
+    } else {
+        number_operand(field, text)
+    }
+}
+
+/// The value of a register's operand.
+#[tactic(auto, using(crate::proofs::digits::Ranges::register_rules))]
+fn register_operand(field: Field, text: &[u8]) -> Result<i64, FaultKind>
+    requires { the_is_register field ≡ true }
+    ensures value { result ≡ registered_in text.now }
+    ensures in_range { IfOk result (λ z. the_is_in field z ≡ true) }
+{
+    if !is_name(text) {
+        return Err(FaultKind::OtherForm);
+    }
+    register_in(text).ok_or(FaultKind::NoRegister)
+}
+
+/// The value of a name that stands for a distance.
+fn target_operand(field: Field, name: &[u8], scope: &Scope<'_, '_>) -> Result<i64, FaultKind>
+    ensures value { result ≡ ranged_if_defined field (distances_in scope.now name.now) }
+    ensures in_range { IfOk result (λ z. the_is_in field z ≡ true) }
+{
+    ranged(field, distance(scope, name).ok_or(FaultKind::Undefined)?)
+}
+
+/// The value of a number's operand.
+#[tactic(auto, using(crate::proofs::digits::CappedLemmas::ranged_rules))]
+fn number_operand(field: Field, text: &[u8]) -> Result<i64, FaultKind>
+    ensures value { result ≡ the_written field (number_of_text text.now) }
+    ensures in_range { IfOk result (λ z. the_is_in field z ≡ true) }
+{
+    written(field, number(text))
+}
+
+/// The value of a number, if there is one.
+fn written(field: Field, number: Option<i64>) -> Result<i64, FaultKind>
+    ensures value { result ≡ the_written field number }
+    ensures in_range { IfOk result (λ z. the_is_in field z ≡ true) }
+{
+    ranged(field, number.ok_or(FaultKind::OtherForm)?)
+}
+
+/// A number that must be in its range.
+fn ranged(field: Field, value: i64) -> Result<i64, FaultKind>
+    ensures value { result ≡ the_ranged field value }
+    ensures in_range { IfOk result (λ z. the_is_in field z ≡ true) }
+{
+    if is_in(field, value) {
+        Ok(value)
+    } else {
+        Err(FaultKind::OutOfRange)
+    }
+}
+
+/// What follows a slot's mark, if it has one.
+fn after_slot(slot: Slot, text: &[u8]) -> Option<&[u8]>
+    ensures { option_map (λ rest. rest.now) result ≡ the_after_slot slot text.now }
+{
+    match slot {
+        Slot::Last(_) => Some(text),
+        Slot::UpTo(_, mark) => after_mark(mark, text),
+    }
+}
+
+/// What follows a mark, if the mark comes next.
+fn after_mark(mark: Mark, text: &[u8]) -> Option<&[u8]>
+    ensures { option_map (λ rest. rest.now) result ≡ the_after_mark mark text.now }
+{
+    match text {
+        [first, rest @ ..] => {
+            if *first == character(mark) {
+                Some(rest)
+            } else {
+                None
+            }
+        }
+        [] => None,
+    }
+}
+
+/// The bits of two parts of the operands, or the fault that counts.
+fn plus(one: Result<u32, FaultKind>, other: Result<u32, FaultKind>) -> Result<u32, FaultKind>
+    requires { IfOk one (λ m. IfOk other (λ n. m + n < 2 ^ 32)) }
+    ensures { result ≡ the_plus one other }
+{
+    match (one, other) {
+        (Ok(m), Ok(n)) => Ok(m + n),
+        (Ok(_), Err(kind)) | (Err(kind), Ok(_)) => Err(kind),
+        (Err(kind), Err(another)) => Err(earlier(kind, another)),
+    }
+}
+
+/// The one of two faults of a line that counts.
+fn earlier(one: FaultKind, other: FaultKind) -> FaultKind
+    ensures { result ≡ the_earlier one other }
+{
+    if other.number() < one.number() {
+        other
+    } else {
+        one
     }
 }
