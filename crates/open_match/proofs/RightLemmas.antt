@@ -24,7 +24,7 @@ use Rattle.transcript_text.specs.declared.text.Stated.{Stated}
 use Rattle.transcript_text.specs.declared.text.Stated.TheVariants.{Accept}
 use Rattle.transcript_text.specs.StatedVerdict.{stated_of, VerdictsAreStated}
 use Rattle.open_match.specs.Laws.{machine_rules, run_of_head, AcceptsRunOrCollides, OpenMatchesAreRight}
-use Rattle.open_match.proofs.HeadLemmas.{AreNumbers, numbers, playable}
+use Rattle.open_match.proofs.HeadLemmas.{playable, short}
 
 -- what the machine's law says
 abbrev pub RunsAreTrue : (List ℕ → List ℕ) → Type 0
@@ -49,10 +49,9 @@ right-by digest head s r (verdict.Collision x y) said there right = right
 pub right : (digest : List ℕ → List ℕ) → ((bytes : List ℕ) → length (digest bytes) ≡ 32) → RunsAreTrue digest → TrueMovesAreSafe → VerdictsAreStated → OpenMatchesAreRight digest
 right digest is_digest runs safe stated head log xs s p limits logged start some known truly =
     let rules : Rules = machine_rules digest head in
-    let n : AreNumbers head = numbers head limits in
-    let short : length s.output + head.bound < 2 ^ 64 = (let none : length s.output ≡ 0 = ap length start.silent in omega (arith, none, n.short)) in
+    let room : length s.output + head.bound < 2 ^ 64 = (let none : length s.output ≡ 0 = ap length start.silent in omega (arith, none, short head limits)) in
     let run : IsRun rules (machine_truth digest s head.bound) =
-    runs s rules start.valid short (ap (machine_ruling digest) (sym start.version)) (start.root ∙ ap (λ v. root_in digest v s) (sym start.version)) in
+    runs s rules start.valid room (ap (machine_ruling digest) (sym start.version)) (start.root ∙ ap (λ v. root_in digest v s) (sym start.version)) in
     let kept : IsSafe rules (run_of_head digest head s) p (record_after rules xs) =
     safe rules (run_of_head digest head s) xs p (playable (machine_ruling digest head.version) head limits) (machine_ruling_is_fair digest is_digest head.version) run some known truly in
     record {

@@ -7,7 +7,7 @@ use Rattle.rv_step.specs.Step.{state_at}
 use Rattle.rv_step.specs.Valid.{IsValid}
 use Rattle.bisect_game.specs.declared.settled.Kind.{Kind}
 use Rattle.bisect_game.specs.Truth.{Truth, IsTrueAnswer}
-use Rattle.bisect_game.specs.Rules.{Rules}
+use Rattle.bisect_game.specs.Rules.{Rules, ArePlayable}
 use Rattle.bisect_game.specs.Ruling.{Ruling}
 use Rattle.step_referee.specs.MachineRuling.{machine_ruling}
 use Rattle.step_referee.specs.MachineTruth.{machine_truth}
@@ -64,6 +64,14 @@ abbrev pub StalePostsChangeNothing : Type 0
 StalePostsChangeNothing =
     (rules : Rules) (xs ys : List Post) (x : Post) (st : MatchState) → is_stale (reply_to rules (after_posts rules xs st) x.prover x.qid x.answer) ≡ true →
     after_posts rules (xs ++ x ∷ ys) st ≡ after_posts rules (xs ++ ys) st
+
+-- HEADS ARE PLAYABLE: a match by numbers that are within the limits can be played, before any judge
+abbrev pub HeadsArePlayable : Type 0
+HeadsArePlayable = (ruling : Ruling) (head : Head) → numbers_are_in_limits head ≡ true → ArePlayable (rules_of_head ruling head)
+
+-- and its run has fewer than 2^32 steps
+abbrev pub HeadsHaveShortRuns : Type 0
+HeadsHaveShortRuns = (head : Head) → numbers_are_in_limits head ≡ true → head.bound < 2 ^ 32
 
 -- OPEN MATCHES ARE RIGHT
 

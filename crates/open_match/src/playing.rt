@@ -27,7 +27,7 @@ pub struct OpenMatch<J: Judge + Drop> {
 pub enum LogFault {
     /// A number of the head is beyond the limits of a text.
     BadHead,
-    /// The bytes behind whole entries, from this place on, don't begin with an entry.
+    /// The bytes after whole entries, from the place `at` on, don't begin with an entry, for this cause. Places count bytes from 0.
     BadEntry { at: u64, cause: EntryFault },
     /// An allocation was refused.
     Memory,
@@ -56,7 +56,7 @@ fn numbers_are_in_limits(head: &Head) -> bool
         && head.fan <= MAX_FAN
 }
 
-/// The match after a log of posts, of the numbers of this head, before a judge.
+/// The match after a log of posts, by the numbers of this head and before this judge, and the reply to the last post.
 ///
 /// An `Err` is `BadHead` exactly if a number is beyond its limit, and else `BadEntry` with the first place at which the log is none;
 /// `Memory` may come in place of any other answer.
