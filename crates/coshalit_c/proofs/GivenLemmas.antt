@@ -31,8 +31,7 @@ use Rattle.machine_audit.specs.MachineAudit.{IsStatedStart}
 use Rattle.image_reader.specs.Image.{Image}
 use Rattle.rv_step.specs.Loaded.{started}
 use Rattle.case_reader.specs.Case.{CaseData}
-use Rattle.open_match.specs.Laws.{machine_rules, OpenMatchesAreRight, TrueAnswersHaveWireForms}
-use Rattle.open_match.proofs.HeadLemmas.{AreNumbers, numbers, playable}
+use Rattle.open_match.specs.Laws.{machine_rules, HeadsArePlayable, HeadsHaveShortRuns, OpenMatchesAreRight, TrueAnswersHaveWireForms}
 use Rattle.delegate.specs.Loading.{within_limit, case_or_refusal, image_or_refusal, start_or_refusal}
 use Rattle.delegate.specs.Outcome.{either_way}
 use Rattle.delegate.specs.Refusal.{too_long}
@@ -131,6 +130,8 @@ ReadingIsSpelling = (answer : Answer) (bytes : List ℕ) → Spells answer bytes
 
 -- what the laws below say
 pub record Below : Type 0 where
+  pub playable : HeadsArePlayable
+  pub short : HeadsHaveShortRuns
   pub right : OpenMatchesAreRight sha256
   pub forms : TrueAnswersHaveWireForms sha256
   pub plain_true : PlainAreTrue
@@ -140,9 +141,6 @@ pub record Below : Type 0 where
   pub within : OpenIsWithinBound
 
 module _ (below : Below) (bytes : List ℕ) (n : CoshalitNumbers) (m : IsMatchOfCase bytes n) where
-  in-match : AreNumbers (head_of_match n)
-  in-match = numbers (head_of_match n) m.limits
-
   abbrev the-rules : Rules
   the-rules = machine_rules sha256 (head_of_match n)
 
@@ -151,7 +149,7 @@ module _ (below : Below) (bytes : List ℕ) (n : CoshalitNumbers) (m : IsMatchOf
       let grown = below.grows Untouched m.start m.of.bound in
       let same : length (run_at Untouched m.start m.of.bound).output ≡ length (state_at m.start m.of.bound).output = ap (λ (s : State). length s.output) (below.untouched m.start m.of.bound) in
       let none : length m.start.output ≡ 0 = ap (length {A = ℕ}) (starts m.of m.start m.loaded).0 in
-      omega (arith, grown, same, none, m.bound, in-match.short)
+      omega (arith, grown, same, none, m.bound, below.short (head_of_match n) m.limits)
 
   -- what is answered on a question that the match asks
   true-plain : (k : Kind) → IsWithinBound m.of.bound k → IsTrueAnswer (machine_truth sha256 m.start m.of.bound) k (plain sha256 (state_at m.start) m.of.bound k)
@@ -191,7 +189,7 @@ module _ (below : Below) (bytes : List ℕ) (n : CoshalitNumbers) (m : IsMatchOf
   asked-within : (ys : List Post) (st : MatchState) (p : ℕ) (q : Question) → after_posts the-rules ys (begun the-rules) ≡ st → open_question the-rules st.record_ p ≡ Some q → IsWithinBound m.of.bound q.kind
   asked-within ys st p q at open_ =
       let there : open_question the-rules (record_after the-rules ys) p ≡ Some q = subst (λ (u : MatchState). open_question the-rules u.record_ p ≡ Some q) (sym at) open_ in
-      subst (λ (b : ℕ). IsWithinBound b q.kind) m.bound (below.within the-rules ys p q (playable (machine_ruling sha256 n.version) (head_of_match n) m.limits) there)
+      subst (λ (b : ℕ). IsWithinBound b q.kind) m.bound (below.within the-rules ys p q (below.playable (machine_ruling sha256 n.version) (head_of_match n) m.limits) there)
 
   truly : (ys xs : List Post) (st : MatchState) (p : ℕ) → after_posts the-rules ys (begun the-rules) ≡ st → PostsWhatIsGiven the-rules bytes p st xs
       → MovesTruly the-rules (machine_truth sha256 m.start m.of.bound) p st xs

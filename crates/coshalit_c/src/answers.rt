@@ -38,10 +38,17 @@ fn response_on(alloc: Global, question: Option<Kind>, case: &[u8]) -> Result<Res
     }
 }
 
-/// The wire form of the true answer of the run of the case of the bytes `case` to a question of a match, by SHA-256: status 0, and its bytes in
-/// `room`, as far as there are any; `length` is how many it has. The question is by `kind`: 1 the claim, 2 the root of the state after `low`
-/// steps, 3 the proof of the step from `low` on, 5 the roots at the cuts of the interval from `low` to `high` in `parts` parts. What no match of
-/// the case asks has status 2. What is no case, or has an image that isn't loaded, is refused with the status and the text of `coshalit_run`.
+/// The true answer of a case's own run to a question of a match of the case, in the case's version and by SHA-256. The case is the bytes
+/// `case`.
+///
+/// The question is by `kind`: 1 the claim; 2 the root of the state after `low` steps; 3 the proof of step `low`, which leads from state
+/// `low` to state `low` + 1; 5 the roots at the cuts of the interval from `low` to `high` in `parts` parts. Numbers that a kind doesn't use
+/// are ignored.
+///
+/// - 0: the text is the answer's wire form. What is written to `room`, and `length`, are as of `coshalit_audit`.
+/// - 2: no match of the case asks this. The text is the line `fault usage`.
+/// - 3, 4, 12: the case is refused. The status and the text are those of `coshalit_run`.
+/// - 9: memory ran out. `length` is 0, and `room` stays as it was.
 #[unsafe(no_mangle)]
 pub extern "C" fn coshalit_answer(
     alloc: Global,

@@ -8,14 +8,15 @@ use rd_base::Memory;
 use std::alloc::Global;
 use tournament::Match;
 
-/// What a prover is asked, and how often it has passed on it.
+/// What a prover is asked, and how often it has passed on that question.
 #[repr(C)]
 #[derive(Clone, Copy, Drop)]
 pub struct CoshalitQuestion {
     /// The number of the prover, from 1.
     pub prover: u32,
-    /// The number of the question: its dispute, 0 for the claim, and its round.
+    /// The dispute of the question, from 1; 0 for the claim.
     pub dispute: u32,
+    /// The round of the question in its dispute, from 1; 0 for the claim.
     pub round: u32,
     /// What is asked for, by the tag of its answer: 1 the claim, 2 a root, 3 a proof, 5 several roots.
     pub kind: u32,
@@ -65,7 +66,7 @@ fn question_to(prover: u32, question: Question, passes: u32) -> CoshalitQuestion
     }
 }
 
-/// The open questions, in the order of their provers.
+/// The open questions, in the order of their provers. An `Err` is out of memory.
 #[tactic(auto, using(crate::proofs::AskedLemmas::few_asked))]
 pub(crate) fn questions<J: Judge + Drop>(
     alloc: Global,
@@ -84,7 +85,7 @@ pub(crate) fn questions<J: Judge + Drop>(
     Ok(found)
 }
 
-/// Writes questions to the first places of `room`, as far as there are any.
+/// Writes questions to the first places of `room`, as many as there is room for.
 pub(crate) fn write_questions(questions: &[CoshalitQuestion], room: &mut [CoshalitQuestion])
     ensures { room.new ≡ take (length room.old) questions.now ++ drop (length questions.now) room.old }
 {

@@ -22,7 +22,7 @@ pub struct CoshalitMatch {
     pub cause: u32,
     /// The rule that the bytes of an answer break, 1 to 5; 0 if there is none.
     pub rule: u32,
-    /// The place of the first byte of the first entry that is none; 0 if the bytes are a log.
+    /// Where the first entry begins that is none, in bytes from the start of the log; 0 if the bytes are a log.
     pub at: u64,
 }
 

@@ -4,7 +4,7 @@ ghost use Rattle.coshalit_c.specs.GivenAnswers.{GivenAnswersAreRight, QuestionsA
 use checkpoint_run::tampered_runs;
 use delegate::plain_answers_are_true;
 use digest_core::Sha256;
-use open_match::{open_matches_are_right, true_answers_have_wire_forms};
+use open_match::{heads_are_playable, open_matches_are_right, true_answers_have_wire_forms};
 use proof_wire::reading_is_spelling;
 use prover_run::outputs_grow_slowly;
 use tournament::questions_are_within_the_bound;
@@ -14,12 +14,13 @@ use tournament::questions_are_within_the_bound;
 /// of the case's own run, or shows two strings of one digest (`right`). Each question that a match of the case asks is given an answer
 /// (`answered`).
 ///
-/// The numbers of the match are the case's version, its bound and what `coshalit_start_root` gives; provers, fan and patience are free. Nobody
-/// else posts in the prover's name.
+/// The numbers of the match are the case's version, its bound and what `coshalit_start_root` gives; provers, fan and patience may be any within
+/// their limits. Nobody else posts in the prover's name.
 pub fn given_answers_are_right()
     ensures right { GivenAnswersAreRight }
     ensures answered { QuestionsAreAnswered }
 {
+    heads_are_playable();
     open_matches_are_right::<Sha256>();
     true_answers_have_wire_forms::<Sha256>();
     plain_answers_are_true();

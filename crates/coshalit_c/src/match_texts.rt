@@ -56,8 +56,8 @@ fn text_of(
 /// The full text of the match of these numbers after a log of posts, once it is over, which `coshalit_audit` confirms if it has at most
 /// 16,777,216 bytes.
 ///
-/// The status is that of `coshalit_match`, and `room` as in `coshalit_audit`. Unless it is 0, 10 or 11 there is no text: the length is 0, and
-/// `room` stays as it was.
+/// The status is that of `coshalit_match`. What is written to `room`, and `length`, are as of `coshalit_audit`. Unless the status is 0, 10 or
+/// 11 there is no text: `length` is 0, and `room` stays as it was.
 #[unsafe(no_mangle)]
 pub extern "C" fn coshalit_match_text(
     alloc: Global,

@@ -44,9 +44,9 @@ fn found_of<J: Judge + Drop>(
 /// The match of these numbers after a log of posts, before the referee of the machine and by SHA-256.
 ///
 /// - 0, 10, 11: it is over, and a prover is accepted, or none is left, or two different strings of one digest were shown. The reply to
-///   the last post and the number of the accepted prover are written to `found`.
-/// - 13: a question is open. The open questions are written to `asked`, in the order of their provers, as far as there is room, and how
-///   many there are to `found`. Room for 16 is always enough.
+///   the last post and the number of the accepted prover are written to `found`, and nothing to `asked`.
+/// - 13: a question is open. The open questions are written to `asked`, in the order of their provers, as many as there is room for. The
+///   reply to the last post and how many questions there are are written to `found`. Room for 16 is always enough.
 /// - 14: a number is beyond its limit. Nothing is written.
 /// - 15: the bytes are no log. Where and why is written to `found`, and nothing to `asked`.
 /// - 9: memory ran out. Nothing is written.

@@ -47,9 +47,9 @@ fn written_claim(answer: &Answer, root: &mut [u8]) -> u32
 
 /// The root of the claim with the bytes `wire`, by SHA-256, by which a match compares claims.
 ///
-/// - 0: they are a claim, which agrees with itself: its control fields have the length and the chain of its output. The 32 bytes of its root
-///   are written to `root`. Otherwise `root` stays as it was.
-/// - 1: they are a claim, which doesn't agree with itself; in a match it is faulty.
+/// - 0: they are a sound claim, which agrees with itself: its control fields have the length and the chain of its output. The 32 bytes of
+///   its root are written to `root`. Otherwise `root` stays as it was.
+/// - 1: they are an unsound claim, which doesn't agree with itself. In a match it is faulty.
 /// - 3: they are the wire form of no claim.
 /// - 4: `root` hasn't 32 bytes. Nothing else is looked at.
 /// - 9: memory ran out.
@@ -70,9 +70,12 @@ pub extern "C" fn coshalit_claim_root(alloc: Global, wire: &[u8], root: &mut [u8
     }
 }
 
-/// The root of the state in which the run of the case of the bytes `case` starts, in the case's version and by SHA-256, by which each match of
-/// the case begins: status 0, and its 32 bytes in `room`, as far as there are any. What is no case, or has an image that isn't loaded, is
-/// refused with the status and the text of `coshalit_run`. The state is valid (`valid`), as the law `given_answers_are_right` wants it.
+/// The root of the state in which the run of a case starts, in the case's version and by SHA-256. It is the `start` of each match of the
+/// case. The case is the bytes `case`. The state is valid (`valid`), as the law `given_answers_are_right` needs it.
+///
+/// - 0: the text is the 32 bytes of the root. What is written to `room`, and `length`, are as of `coshalit_audit`.
+/// - 3, 4, 12: the case is refused. The status and the text are those of `coshalit_run`.
+/// - 9: memory ran out. `length` is 0, and `room` stays as it was.
 #[unsafe(no_mangle)]
 pub extern "C" fn coshalit_start_root(alloc: Global, case: &[u8], room: &mut [u8]) -> CoshalitAnswer
     ensures response { result.status ≢ 9 → IsWrittenTo (response_by start_response case.now) result room.old room.new }
@@ -85,9 +88,12 @@ pub extern "C" fn coshalit_start_root(alloc: Global, case: &[u8], room: &mut [u8
     }
 }
 
-/// The roots of the states after these many steps each of the run of the case of the bytes `case`, in the case's version and by SHA-256:
-/// status 0, and 32 bytes for each, in the order of `steps`, in `room`, as far as there are any. The steps may have any order, and one run
-/// reaches them. A step above the case's bound has status 2; other refusals are as of `coshalit_start_root`.
+/// The roots of the states of a case's run after these many steps each, in the case's version and by SHA-256. The case is the bytes `case`.
+/// The steps may have any order, and are reached by one run.
+///
+/// - 0: the text is 32 bytes for each root, in the order of `steps`. What is written to `room`, and `length`, are as of `coshalit_audit`.
+/// - 2: a step is above the case's bound. The text is the line `fault usage`.
+/// - 3, 4, 9, 12: as of `coshalit_start_root`.
 #[unsafe(no_mangle)]
 pub extern "C" fn coshalit_roots_at(
     alloc: Global,

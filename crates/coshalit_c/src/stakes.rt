@@ -46,7 +46,7 @@ fn settled(
     }
 }
 
-/// Writes numbers to the first places of `room`, as far as there are any.
+/// Writes numbers to the first places of `room`, as many as there is room for.
 fn write_numbers(numbers: &[u64], room: &mut [u64])
     ensures { room.new ≡ take (length room.old) numbers.now ++ drop (length numbers.now) room.old }
 {
@@ -118,10 +118,10 @@ fn stakes_after(
 }
 
 /// What the provers of the match of these numbers have of their stakes after a log of posts, once it is over, if each put down `stake`, by the
-/// ledger (`deposits::balances`): the balances are written to `balances`, in the order of the provers, as far as there is room, and what is
-/// in the pool to `pool`. Room for 16 is always enough.
+/// ledger (`deposits::balances`): the balances are written to `balances`, in the order of the provers, as many as there is room for, and what
+/// is in the pool to `pool`. Room for 16 is always enough.
 ///
-/// The status is that of `coshalit_match`, and 14 also if the stake is above 1,000,000,000. Unless it is 0, 10 or 11 nothing is written.
+/// The status is that of `coshalit_match`, and 14 also if `stake` is above 1,000,000,000. Unless it is 0, 10 or 11 nothing is written.
 #[unsafe(no_mangle)]
 pub extern "C" fn coshalit_match_balances(
     alloc: Global,
@@ -151,7 +151,8 @@ pub extern "C" fn coshalit_match_balances(
     )
 }
 
-/// The same by the settlement that burns (`deposits::burned`): what is burned is written to `pool`.
+/// The same by the settlement that burns (`deposits::burned`): each prover that isn't out keeps its stake, and each other stake is burned.
+/// What is burned is written to `pool`.
 #[unsafe(no_mangle)]
 pub extern "C" fn coshalit_match_burned(
     alloc: Global,

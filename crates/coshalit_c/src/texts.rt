@@ -16,7 +16,7 @@ pub struct CoshalitAnswer {
     pub length: usize,
 }
 
-/// Writes bytes to the first places of `room`, as far as there are any.
+/// Writes bytes to the first places of `room`, as many as there is room for.
 pub(crate) fn write_bytes(bytes: &[u8], room: &mut [u8])
     ensures { room.new ≡ take (length room.old) bytes.now ++ drop (length bytes.now) room.old }
 {
@@ -24,7 +24,7 @@ pub(crate) fn write_bytes(bytes: &[u8], room: &mut [u8])
     room[..count].copy_from_slice(&bytes[..count]);
 }
 
-/// Writes a response's text to the first bytes of `room`, as far as there are any.
+/// Writes a response's text to the first bytes of `room`, as much as there is room for.
 pub(crate) fn written(response: &Response, room: &mut [u8]) -> CoshalitAnswer
     ensures { IsWrittenTo response.now result room.old room.new }
 {
@@ -60,9 +60,9 @@ fn answered(alloc: Global, command: Alone, bytes: &[u8], room: &mut [u8]) -> Cos
 
 /// Audits the full text of the bytes `text`: the status and the text of the program's command `audit` on them.
 ///
-/// The first bytes of the text are written to `room`, as many as it has, and nothing behind them. If `length` is more than the bytes of
-/// `room`, the rest of the text is missing: call again with a room of `length` bytes. If memory ran out, the status is 9, the length is 0,
-/// and `room` stays as it was.
+/// The first bytes of the text are written to `room`, as many as there is room for, and what is after them stays. `length` is how many
+/// bytes the text has. If that is more than `room` has, the rest of the text is missing: call again with a room of `length` bytes. If memory
+/// ran out, the status is 9, `length` is 0, and `room` stays as it was.
 #[unsafe(no_mangle)]
 pub extern "C" fn coshalit_audit(alloc: Global, text: &[u8], room: &mut [u8]) -> CoshalitAnswer
     ensures outcome { result.status ≢ 9 → IsOutcome alone.Audit text.now result room.old room.new }
@@ -71,8 +71,8 @@ pub extern "C" fn coshalit_audit(alloc: Global, text: &[u8], room: &mut [u8]) ->
     answered(alloc, Alone::Audit, text, room)
 }
 
-/// Runs the program of the case of the bytes `case`: the status and the text of the program's command `run` on them, and `room` as in
-/// `coshalit_audit`.
+/// Runs the program of the case of the bytes `case`: the status and the text of the program's command `run` on them. What is written to
+/// `room`, and `length`, are as of `coshalit_audit`.
 #[unsafe(no_mangle)]
 pub extern "C" fn coshalit_run(alloc: Global, case: &[u8], room: &mut [u8]) -> CoshalitAnswer
     ensures outcome { result.status ≢ 9 → IsOutcome alone.Run case.now result room.old room.new }
@@ -81,8 +81,8 @@ pub extern "C" fn coshalit_run(alloc: Global, case: &[u8], room: &mut [u8]) -> C
     answered(alloc, Alone::Run, case, room)
 }
 
-/// Lists the image of the case of the bytes `case`: the status and the text of the program's command `list` on them, and `room` as in
-/// `coshalit_audit`.
+/// Lists the image of the case of the bytes `case`: the status and the text of the program's command `list` on them. What is written to
+/// `room`, and `length`, are as of `coshalit_audit`.
 #[unsafe(no_mangle)]
 pub extern "C" fn coshalit_list(alloc: Global, case: &[u8], room: &mut [u8]) -> CoshalitAnswer
     ensures outcome { result.status ≢ 9 → IsOutcome alone.Listing case.now result room.old room.new }

@@ -5,6 +5,8 @@ use Rattle.coshalit_c.proofs.laws.given_answers_are_right.Goals as goal
 pub returns-clause-right : goal.returns-clause-right
 returns-clause-right c =
     let below : Below = record {
+      playable = c.heads_are_playable.ensures.playable;
+      short = c.heads_are_playable.ensures.short;
       right = c.open_matches_are_right.ensures;
       forms = c.true_answers_have_wire_forms.ensures;
       plain_true = c.plain_answers_are_true.ensures sha256;
@@ -18,6 +20,8 @@ returns-clause-right c =
 pub returns-clause-answered : goal.returns-clause-answered
 returns-clause-answered c =
     let below : Below = record {
+      playable = c.heads_are_playable.ensures.playable;
+      short = c.heads_are_playable.ensures.short;
       right = c.open_matches_are_right.ensures;
       forms = c.true_answers_have_wire_forms.ensures;
       plain_true = c.plain_answers_are_true.ensures sha256;
