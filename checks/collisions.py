@@ -2,7 +2,7 @@
 """Finds two collisions of the digest of eight bits with SHA-256 alone, from docs/COMMITMENTS.md.
 
     checks/collisions.py    writes the values of x5, the two strings of each collision behind their digest, the last line of the match's
-                            full text and its audit: lines of crates/test_refcli/stdout, which `rt ci` compares
+                            full text, and its audit with its status: lines of crates/test_refcli/stdout, which `rt ci` compares
 
 The program is JALR x0, 0(x5). The first is the least pair of multiples of 4 up to 1,024 whose claims after the step have one root; the
 second is the first multiple of 4 whose state before the step has the root of the honest one, and whose state after it another root than
@@ -53,7 +53,7 @@ def lines_of_match(first, second):
     for string in first, second:
         yield f"{weak8(string)[0]:02x} is the digest of {string.hex()}"
     collision = f"collision {first.hex()} {second.hex()}"
-    yield from (collision, "audit: status 0", f"confirmed {collision}")
+    yield from (collision, f"0 confirmed {collision}")
 
 
 def lines():

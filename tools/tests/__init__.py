@@ -1,5 +1,5 @@
-"""Tests of the tools: `python3 -m unittest` in the folder tools. Expected values come from examples/, docs/ and crates/test_refcli, whose
-texts the proved program writes; without these folders the tests fail, as there is nothing to compare with."""
+"""Tests of the tools: `python3 -m unittest` in the folder tools. Expected values come from examples/ and docs/, whose texts the proved
+program writes; without these folders the tests fail, as there is nothing to compare with."""
 import pathlib
 import sys
 from typing import Iterator, Tuple
@@ -20,14 +20,3 @@ def commands(folder: str = "examples") -> Iterator[Tuple[str, str, str, int]]:
                 yield path.parent.name, words, "".join(lines), int(line.split()[1])
             else:
                 lines.append(line)
-
-
-def rows(command: str) -> Iterator[Tuple[str, bytes, str]]:
-    """The name of each row of this command in crates/test_refcli, its standard input, and the first line that is expected."""
-    folder = TOP / "crates/test_refcli"
-    lines = (folder / "stdout").read_bytes().decode("latin-1").split("\n")
-    expected = {line.partition(": status ")[0]: after for line, after in zip(lines, lines[1:]) if ": status " in line}
-    for row in (folder / "stdin").read_bytes().splitlines():
-        name, given, text = row.split(b"\t", 2)
-        if given.decode() == command and name.decode() in expected:
-            yield name.decode(), text.replace(b"|", b"\n"), expected[name.decode()]

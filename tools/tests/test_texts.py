@@ -1,4 +1,5 @@
-"""Reports, full texts, audits and pictures, against transcripts and the rows of crates/test_refcli; and hostile texts."""
+"""Reports, full texts, audits and pictures, against transcripts; and hostile texts. `checks/quick` compares audits with rows of test_refcli."""
+import pathlib
 import random
 import re
 import unittest
@@ -6,7 +7,7 @@ import xml.etree.ElementTree
 
 from coshalit import colours, game, pictures, reading, reports, texts
 
-from . import TOP, commands, rows
+from . import TOP, commands
 
 STORED = [path for path in sorted(TOP.glob("examples/*/full_text.txt"))]
 
@@ -16,13 +17,6 @@ def report_texts():
     for folder, words, text, _ in commands():
         if text.startswith(("match ", "task 1\nmatch ")):
             yield folder, text
-
-
-def confirmed():
-    """Full texts that the audit confirms, by name."""
-    found = {path.parent.name: path.read_bytes() for path in STORED}
-    found.update((name, text) for name, text, answer in rows("audit") if answer.startswith("confirmed "))
-    return found
 
 
 class Reports(unittest.TestCase):
@@ -58,12 +52,6 @@ class Reports(unittest.TestCase):
 
 
 class FullTexts(unittest.TestCase):
-    def test_each_row_is_audited_as_the_program_does(self):
-        found = [(name, game.audited(text), answer) for name, text, answer in rows("audit")]
-        self.assertGreater(len(found), 30)
-        for name, audited, answer in found:
-            self.assertEqual(audited, answer, name)
-
     def test_changed_texts_are_audited_as_in_their_transcript(self):
         compared = 0
         for folder, words, text, _ in commands():
@@ -82,12 +70,13 @@ class FullTexts(unittest.TestCase):
         self.assertGreater(compared, 1)
 
     def test_a_text_that_is_cut_off_is_refused(self):
-        for name, text in confirmed().items():
+        for path in STORED:
+            text = path.read_bytes()
             for at in [*range(1, len(text), max(1, len(text) // 40)), *(found.end() for found in re.finditer(b"\n", text[:-1]))]:
-                self.assertEqual(game.audited(text[:at])[:9], "fault tex", f"{name}, {at} bytes")
+                self.assertEqual(game.audited(text[:at]), "fault text 3", f"{path.parent.name}, {at} bytes")
 
     def test_another_collision_is_refused(self):
-        found = [text for text in confirmed().values() if b"\ncollision " in text]
+        found = [text for text in map(pathlib.Path.read_bytes, STORED) if b"\ncollision " in text]
         self.assertGreater(len(found), 0)
         for text in found:
             head, _, line = text.rpartition(b"\ncollision ")
@@ -96,15 +85,6 @@ class FullTexts(unittest.TestCase):
             self.assertEqual(game.audited(head + b"\ncollision zz\n"), f"fault text 2 {last}")
             one, other = line.split()
             self.assertEqual(game.audited(head + b"\ncollision " + other + b" " + one + b"\n"), f"refused {last} 3")
-
-    def test_random_changes_are_confirmed_or_refused(self):
-        chance, refused = random.Random(2), 0
-        for text in confirmed().values():
-            for _ in range(100):
-                answer = game.audited(changed_text(chance, text))
-                self.assertRegex(answer, r"\A(confirmed (accept|none left|collision)|refused \d+ [1-5]\Z|fault text [13]\Z|fault text [24] \d+\Z)")
-                refused += not answer.startswith("confirmed")
-        self.assertGreater(refused, 500)
 
     def test_hostile_texts(self):
         text = (TOP / "examples/liar_is_bisected/full_text.txt").read_bytes()
@@ -130,16 +110,16 @@ class FullTexts(unittest.TestCase):
 
 
 def changed_text(chance, text):
-    """A text with a byte or a line changed, left out or doubled."""
+    """A text with a byte or a line changed, left out or doubled: another text."""
     if chance.random() < 0.5:
-        lines = text.splitlines(keepends=True)
-        at = chance.randrange(len(lines))
-        pieces, piece = lines, lines[at]
+        pieces = text.splitlines(keepends=True)
+        at = chance.randrange(len(pieces))
     else:
+        pieces = [text[k : k + 1] for k in range(len(text))]
         at = chance.choice([chance.randrange(len(text)), chance.randrange(min(len(text), 160)), -chance.randrange(1, min(len(text), 160))]) % len(text)
-        pieces, piece = [text[k : k + 1] for k in range(len(text))], text[at : at + 1]
-    other = bytes(piece[:-2]) + chance.choice([b"0", b" ", b"g", b"\0", b"9", b"\xff"]) + bytes(piece[-1:])
-    pieces[at] = chance.choice([b"", piece * 2, other])
+    piece = pieces[at]
+    others = [bytes(piece[:-2]) + byte + bytes(piece[-1:]) for byte in (b"0", b" ", b"g", b"\0", b"9", b"\xff")]
+    pieces[at] = chance.choice([b"", piece * 2, chance.choice([other for other in others if other != piece])])
     return b"".join(pieces)
 
 

@@ -57,6 +57,21 @@ pub fn outcome_of<R: Threads + Wait + Sync>(
     })
 }
 
+/// Adds the line of an audit: the status, and the answer.
+pub fn add_audit<R: Threads + Wait + Sync>(
+    rt: &R,
+    alloc: Global,
+    answers: &mut String,
+    text: Vec<u8>,
+) -> Result<(), Memory> {
+    let outcome = outcome_of(rt, alloc, "audit", text)?;
+    let status = outcome.answered.status();
+    let answer = outcome.text.as_str();
+    let line = format!(in alloc; "{status} {answer}")?;
+    answers.push_str(line.as_str())?;
+    Ok(())
+}
+
 /// The digest of a text, in hexadecimal.
 pub fn digest_of(alloc: Global, text: &[u8]) -> Result<String, AllocError> {
     let digest = Sha256.digest(text);

@@ -1,8 +1,8 @@
 //! The audit of full texts of which one line is changed.
 //!
 //! A text is cut after each of its lines, and each line is exchanged with the next, left out and doubled. The expected lines are those of
-//! another reader of texts, `checks/lines.py --stored`.
-use crate::answering::outcome_of;
+//! another player of texts, `checks/lines.py --stored`.
+use crate::answering::add_audit;
 use rd_base::Memory;
 use std::alloc::{AllocError, Global};
 use std::sync::Wait;
@@ -17,6 +17,13 @@ enum Change {
     Exchanged,
     LeftOut,
     Doubled,
+}
+
+impl Change {
+    /// Whether it is a change only of a line that another one follows.
+    fn needs_the_next(self) -> bool {
+        matches!(self, Change::Cut | Change::Exchanged)
+    }
 }
 
 /// Adds this line to a text.
@@ -61,39 +68,29 @@ fn changed(alloc: Global, lines: &[&str], at: usize, change: Change) -> Result<S
     Ok(text)
 }
 
-/// Adds the audit's answer to lines of which one is changed.
-fn add_answer<R: Threads + Wait + Sync>(
+/// The audits of a row's text with one line changed, line after line, a line each. The last one is only left out and doubled.
+pub fn answers_of<R: Threads + Wait + Sync>(
     rt: &R,
     alloc: Global,
-    answers: &mut String,
-    lines: &[&str],
-    at: usize,
-    change: Change,
-) -> Result<(), Memory> {
-    let text = changed(alloc, lines, at, change)?;
-    let outcome = outcome_of(rt, alloc, "audit", text.into_bytes())?;
-    answers.push_str(outcome.text.as_str())?;
-    Ok(())
-}
-
-/// Adds the audit's answers to the text of a row with one line changed, line after line. The last one is left out and doubled alone.
-pub fn add_answers<R: Threads + Wait + Sync>(
-    rt: &R,
-    alloc: Global,
-    answers: &mut String,
     row: &str,
-) -> Result<(), Memory> {
+) -> Result<String, Memory> {
     let mut lines = Vec::new(alloc);
     for line in row.split_terminator('|') {
         lines.push(line)?;
     }
+    let mut answers = String::new(alloc);
     for at in 0..lines.len() {
-        if lines.len().saturating_sub(at) > 1 {
-            add_answer(rt, alloc, answers, lines.as_slice(), at, Change::Cut)?;
-            add_answer(rt, alloc, answers, lines.as_slice(), at, Change::Exchanged)?;
+        for change in [
+            Change::Cut,
+            Change::Exchanged,
+            Change::LeftOut,
+            Change::Doubled,
+        ] {
+            if lines.len().saturating_sub(at) > 1 || !change.needs_the_next() {
+                let text = changed(alloc, lines.as_slice(), at, change)?;
+                add_audit(rt, alloc, &mut answers, text.into_bytes())?;
+            }
         }
-        add_answer(rt, alloc, answers, lines.as_slice(), at, Change::LeftOut)?;
-        add_answer(rt, alloc, answers, lines.as_slice(), at, Change::Doubled)?;
     }
-    Ok(())
+    Ok(answers)
 }

@@ -4,9 +4,8 @@
 //! different proofs lead from one root. The lines behind each are of the match of the two provers: the strings that their answers open, each
 //! behind its digest, the last line of the full text, and the audit of that text. All of them were computed outside with SHA-256 alone, by
 //! `checks/collisions.py`.
-use crate::answering::{last_line, outcome_of};
+use crate::answering::{add_audit, last_line, outcome_of};
 use crate::cases::{case_of, flat};
-use crate::rows::add_row;
 use digest_core::{Digester, Weak8};
 use rd_base::Memory;
 use std::alloc::{AllocError, Global};
@@ -111,11 +110,15 @@ fn strings_opened(alloc: Global, text: &str, question: &str) -> Result<Vec<Vec<u
     Ok(strings)
 }
 
-/// The values of the liars, from 0 on, each with the first byte of the root of its claim, as the program wrote these claims.
-fn claimed_roots<R: Threads + Wait + Sync>(
-    rt: &R,
-    alloc: Global,
-) -> Result<Vec<(u32, u8)>, Memory> {
+/// The value of a liar, and the first byte of the root of its claim.
+#[derive(Clone, Copy)]
+struct Claimed {
+    value: u32,
+    root: u8,
+}
+
+/// What the liars claim, by their values, from 0 on, as the program wrote these claims.
+fn claimed_roots<R: Threads + Wait + Sync>(rt: &R, alloc: Global) -> Result<Vec<Claimed>, Memory> {
     let mut roots = Vec::new(alloc);
     let mut value: u32 = 0;
     for number in 0..17 {
@@ -123,7 +126,8 @@ fn claimed_roots<R: Threads + Wait + Sync>(
         let text = judged(rt, alloc, "judge --digest weak8 --full", provers.as_str())?;
         let strings = strings_opened(alloc, text.as_str(), "move 0 0 ")?;
         for string in strings.iter() {
-            roots.push((value, digest_byte(string.as_slice())))?;
+            let root = digest_byte(string.as_slice());
+            roots.push(Claimed { value, root })?;
             value = value.wrapping_add(4);
         }
     }
@@ -131,11 +135,11 @@ fn claimed_roots<R: Threads + Wait + Sync>(
 }
 
 /// The least value whose root comes again, and the least with which it does.
-fn least_pair(roots: &[(u32, u8)]) -> Option<(u32, u32)> {
-    for (first, root) in roots {
-        for (second, other) in roots {
-            if *first < *second && *root == *other {
-                return Some((*first, *second));
+fn least_pair(roots: &[Claimed]) -> Option<(u32, u32)> {
+    for first in roots {
+        for second in roots {
+            if first.value < second.value && first.root == second.root {
+                return Some((first.value, second.value));
             }
         }
     }
@@ -182,7 +186,7 @@ fn add_match<R: Threads + Wait + Sync>(
     }
     lines.push_str(last_line(text.as_str()))?;
     lines.push_str("\n")?;
-    add_row(rt, alloc, lines, "audit", "audit", text.as_str())
+    add_audit(rt, alloc, lines, text.into_bytes())
 }
 
 /// Adds the lines of the claims: how many there are, and the least two of one root.

@@ -1,8 +1,10 @@
-//! The program `test_refcli`: calls `delegate::run` over memory for each row, and writes the result.
+//! The program `test_refcli`: calls `delegate::run` over memory for each row of its standard input, and writes each row with its answer
+//! below it.
 //!
-//! The rows of its standard input are calls whose answers are written out; those of the commands `each line changed` and `mutants` are the
-//! audits of many texts that are made of one. The lines after them are of calls over devices that fail, of the collisions that the program
-//! itself finds, of verdicts without a text, and of calls at the limits of what the program takes.
+//! The first lines of standard input say how a row is written. Lines that begin with `#`, and empty ones, are written as they are. So
+//! `stdout` is the table to read, and `stdin` is `stdout` without its answers and without the lines after the rows. `rows` defines what a
+//! row calls, and `texts` how it writes its text. A line that is no row fails. The lines after the rows are of calls over devices that fail,
+//! of the collisions that the program itself finds, of verdicts without a text, and of calls at the limits of what the program takes.
 //!
 //! A call may answer that memory ran out, so no proof shows that a body doesn't give up at some size; the last lines show it, for the largest
 //! case, image, input and bound, the most loads, provers, passes and rounds, and the ends of the options. `checks/limits --lines` writes
@@ -20,6 +22,7 @@ mod matches;
 mod mutants;
 mod rows;
 mod runs;
+mod texts;
 mod verdicts;
 
 use io_edge::StdSource;
@@ -46,13 +49,18 @@ fn lines_after_rows<R: Threads + Wait + Sync>(rt: &R, alloc: Global) -> Result<S
 
 fn main(rt: HostRuntime) -> io::Result<ExitCode> {
     let mut source = StdSource::new(rt.stdin());
-    match rows::lines_of_rows(&rt, rt.alloc(), &mut source) {
-        Ok(lines) => print!(rt; "{lines}")?,
-        Err(_) => return Ok(ExitCode::from(9)),
-    }
+    let Ok(table) = rows::answers_of_rows(&rt, rt.alloc(), &mut source) else {
+        return Ok(ExitCode::from(9));
+    };
+    let rows = table.lines;
+    print!(rt; "{rows}")?;
     match lines_after_rows(&rt, rt.alloc()) {
         Ok(lines) => print!(rt; "{lines}")?,
         Err(_) => return Ok(ExitCode::from(9)),
     }
-    Ok(ExitCode::SUCCESS)
+    Ok(if table.are_rows {
+        ExitCode::SUCCESS
+    } else {
+        ExitCode::FAILURE
+    })
 }

@@ -1,9 +1,9 @@
 //! The audit of a full text's mutants, in each of which one byte is changed, dropped or doubled.
 //!
-//! The expected lines are those of another reader of texts, `checks/texts.py --stored`: `read`, or the fault of reading.
+//! The expected lines are those of another player of texts, `checks/lines.py --stored`.
 ghost use Rattle.std.specs.Prelude.{◌<◌, ◌≤◌, length};
 
-use crate::answering::outcome_of;
+use crate::answering::add_audit;
 use rd_base::Memory;
 use std::alloc::{AllocError, Global};
 use std::sync::Wait;
@@ -20,7 +20,7 @@ const AT_ENDS: usize = 120;
 /// The others are this many bytes apart, round the text.
 const STRIDE: usize = 7_919;
 
-/// What a byte is changed to, in turn.
+/// What a byte is changed to, in turn, and never itself.
 const CHANGES: [u8; 10] = [b'0', b' ', b'a', b'\n', b'9', b'p', 0, b'G', b'1', b'\r'];
 
 /// The place of the byte in which a mutant of a text of this many bytes differs.
@@ -38,6 +38,18 @@ fn place_of(mutant: usize, size: usize) -> usize
     }
 }
 
+/// What a byte is changed to in a mutant.
+fn change_of(mutant: usize, byte: u8) -> u8
+    requires mutant { mutant < 240 }
+{
+    let change = CHANGES[mutant / 3 % CHANGES.len()];
+    if change == byte {
+        CHANGES[(mutant / 3 + 1) % CHANGES.len()]
+    } else {
+        change
+    }
+}
+
 /// The text with a byte changed, dropped or doubled, these three in turn.
 fn mutant_of(alloc: Global, text: &[u8], mutant: usize) -> Result<Vec<u8>, AllocError>
     requires mutant { mutant < 240 }
@@ -47,7 +59,7 @@ fn mutant_of(alloc: Global, text: &[u8], mutant: usize) -> Result<Vec<u8>, Alloc
     let mut bytes = Vec::new(alloc);
     bytes.extend_from_slice(&text[..place])?;
     match mutant % 3 {
-        0 => bytes.push(CHANGES[mutant / 3 % CHANGES.len()])?,
+        0 => bytes.push(change_of(mutant, text[place]))?,
         1 => {}
         _ => {
             bytes.push(text[place])?;
@@ -58,28 +70,18 @@ fn mutant_of(alloc: Global, text: &[u8], mutant: usize) -> Result<Vec<u8>, Alloc
     Ok(bytes)
 }
 
-/// How a text is read whose audit answers this: `read`, or its fault.
-fn reading_of(answer: &str) -> &str {
-    if answer.starts_with("confirmed ") || answer.starts_with("refused ") {
-        "read\n"
-    } else {
-        answer
-    }
-}
-
-/// Adds a line for each mutant of a text. None for a text of fewer than 120 bytes.
-pub fn add_readings<R: Threads + Wait + Sync>(
+/// The audits of the mutants of a text, a line each. None for a text of fewer than 120 bytes.
+pub fn answers_of<R: Threads + Wait + Sync>(
     rt: &R,
     alloc: Global,
-    lines: &mut String,
     text: &[u8],
-) -> Result<(), Memory> {
+) -> Result<String, Memory> {
+    let mut answers = String::new(alloc);
     if text.len() < AT_ENDS {
-        return Ok(());
+        return Ok(answers);
     }
     for mutant in 0..MUTANTS {
-        let outcome = outcome_of(rt, alloc, "audit", mutant_of(alloc, text, mutant)?)?;
-        lines.push_str(reading_of(outcome.text.as_str()))?;
+        add_audit(rt, alloc, &mut answers, mutant_of(alloc, text, mutant)?)?;
     }
-    Ok(())
+    Ok(answers)
 }
