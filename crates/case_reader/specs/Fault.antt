@@ -1,7 +1,9 @@
--- To believe. The numbers of a case's rules.
+-- To believe: the numbers of a case's rules. Derived: the fault of a whole text, as the code passes it on.
 use Rattle.std.specs.Prelude.{ℕ, Option, Some, None}
 use Rattle.case_reader.specs.declared.fault.CaseFault.{CaseFault}
 use Rattle.case_reader.specs.declared.fault.CaseFault.TheVariants.{NotJson, NotObject, Missing, WrongType, BadHex, OutOfRange, BadProver, Memory}
+use Rattle.case_reader.specs.declared.fault.TaskFault.{TaskFault}
+use Rattle.case_reader.specs.declared.fault.TaskFault.TheVariants as task
 
 -- the number of the rule that is broken, and none if memory ran out
 abbrev pub case_rule : CaseFault → Option ℕ
@@ -13,3 +15,8 @@ case_rule (BadHex key) = Some 5
 case_rule (OutOfRange key) = Some 6
 case_rule (BadProver number) = Some 7
 case_rule Memory = None
+
+-- a rule that the whole text breaks, and out of memory as it is
+abbrev pub whole_fault : CaseFault → TaskFault
+whole_fault Memory = task.Memory
+whole_fault fault = task.Whole fault

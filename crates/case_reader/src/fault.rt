@@ -1,7 +1,7 @@
 //! The keys of a case, and the faults of cases and tasks.
 ghost use Rattle.std.specs.Prelude.{◌≡◌, Some};
 ghost use Rattle.case_reader.specs.Key.{key_text};
-ghost use Rattle.case_reader.specs.Fault.{case_rule};
+ghost use Rattle.case_reader.specs.Fault.{case_rule, whole_fault};
 ghost use Rattle.case_reader.specs.declared.fault.CaseFault.TheVariants.{Memory};
 ghost use Rattle.case_reader.specs.declared.fault.TaskFault.TheVariants as task;
 
@@ -129,6 +129,19 @@ pub enum TaskFault {
     /// An allocation was refused.
     #[error("out of memory")]
     Memory,
+}
+
+/// A rule of a case that the whole text breaks.
+impl From<CaseFault> for TaskFault {
+    ghost from_gives = { λ fault e. e ≡ whole_fault fault };
+
+    #[tactic(auto, using(crate::proofs::TaskLemmas::whole_rules))]
+    fn from(fault: CaseFault) -> TaskFault {
+        match fault {
+            CaseFault::Memory => TaskFault::Memory,
+            _ => TaskFault::Whole(fault),
+        }
+    }
 }
 
 impl From<AllocError> for TaskFault {

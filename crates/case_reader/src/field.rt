@@ -4,20 +4,26 @@ ghost use Rattle.std.specs.Prelude.{◌≤◌, map, Ok, IfOk, IfSome, ◌≡◌}
 ghost use Rattle.std.specs.Option.{option_map};
 ghost use Rattle.serde_json.specs.View.{view};
 ghost use Rattle.rd_base.specs.Results.{Gives};
+ghost use Rattle.rd_base.specs.declared.tamper.Tamper.TheVariants.{Register};
+ghost use Rattle.rd_base.specs.declared.script.Manner.TheVariants.{Forge};
 ghost use Rattle.case_reader.specs.Fields.{field, text_field, bytes_field, number_of, number_field, optional_number_field, array_field, hex_of};
-ghost use Rattle.case_reader.specs.Scripts.{text_of_key, number_of_key, word_of_key};
+ghost use Rattle.case_reader.specs.Scripts.{text_of_key, number_of_key, word_of_key, register_in, forge_in};
 
 use crate::fault::{CaseFault, Key};
 use hex::FromHexError;
-use rd_base::Bytes;
+use rd_base::{Bytes, RegisterNumber};
 use serde_json::Value;
 use std::alloc::Global;
 
-/// The value of a key. `Missing` comes if the tree isn't an object with this key.
-fn value_of<'v>(tree: &'v Value, key: Key) -> Result<&'v Value, CaseFault>
-    ensures { Gives CaseFault.Memory (λ v. view v.now) result (field key (view tree.now)) }
-{
-    tree.get(key.name()).ok_or(CaseFault::Missing(key))
+/// At which step a register gets which value.
+#[derive(Clone, Copy, Debug)]
+pub struct RegisterChange {
+    /// The step's number.
+    pub step: u32,
+    /// The register.
+    pub reg: RegisterNumber,
+    /// Its value.
+    pub value: u32,
 }
 
 /// The text of a key. `Missing` comes if the key isn't there, and `WrongType` if its value is no string.
@@ -29,6 +35,16 @@ pub fn text_of<'v>(tree: &'v Value, key: Key) -> Result<&'v str, CaseFault>
     value.as_str().ok_or(CaseFault::WrongType(key))
 }
 
+/// The bytes of a key whose text is hexadecimal digits. `Missing` and `WrongType` come as in `text_of`, `BadHex` if the text isn't such
+/// digits in pairs, and `Memory` if memory ran out.
+#[tactic(auto, unfolding(crate::specs::Fields::bytes_field))]
+pub fn bytes_of(alloc: Global, tree: &Value, key: Key) -> Result<Bytes, CaseFault>
+    ensures { Gives CaseFault.Memory (λ bytes. bytes) result (bytes_field key (view tree.now)) }
+{
+    let text = text_of(tree, key)?;
+    hex_bytes(alloc, text)?.ok_or(CaseFault::BadHex(key))
+}
+
 /// The bytes of a text of hexadecimal digits in pairs; `None` if it isn't one. An `Err` is `Memory`.
 pub fn hex_bytes(alloc: Global, text: &str) -> Result<Option<Bytes>, CaseFault>
     ensures { Gives CaseFault.Memory (λ bytes. bytes) result (Ok (hex_of text.now)) }
@@ -38,16 +54,6 @@ pub fn hex_bytes(alloc: Global, text: &str) -> Result<Option<Bytes>, CaseFault>
         Err(FromHexError::OutOfMemory) => Err(CaseFault::Memory),
         Err(_) => Ok(None),
     }
-}
-
-/// The bytes of a key whose text is hexadecimal digits. `Missing` and `WrongType` come as in `text_of`, `BadHex` if the text isn't such
-/// digits in pairs, and `Memory` if memory ran out.
-#[tactic(auto, unfolding(crate::specs::Fields::bytes_field))]
-pub fn bytes_of(alloc: Global, tree: &Value, key: Key) -> Result<Bytes, CaseFault>
-    ensures { Gives CaseFault.Memory (λ bytes. bytes) result (bytes_field key (view tree.now)) }
-{
-    let text = text_of(tree, key)?;
-    hex_bytes(alloc, text)?.ok_or(CaseFault::BadHex(key))
 }
 
 /// The number of a key, from `low` to `high`. `Missing` comes if the key isn't there, `WrongType` if its value isn't an unsigned number of
@@ -74,10 +80,10 @@ pub fn optional_number_of(
     ensures from { IfOk result (λ number. IfSome number (λ n. low ≤ n)) }
     ensures to { IfOk result (λ number. IfSome number (λ n. n ≤ high)) }
 {
-    match tree.get(key.name()) {
-        Some(value) => Ok(Some(number_in_range(value, key, low, high)?)),
-        None => Ok(None),
-    }
+    let Some(value) = tree.get(key.name()) else {
+        return Ok(None);
+    };
+    Ok(Some(number_in_range(value, key, low, high)?))
 }
 
 /// The number that a key's value is, from `low` to `high`.
@@ -107,11 +113,38 @@ pub fn array_of(tree: &Value, key: Key) -> Result<&[Value], CaseFault>
     }
 }
 
+/// The value of a key. `Missing` comes if the tree isn't an object with this key.
+fn value_of<'v>(tree: &'v Value, key: Key) -> Result<&'v Value, CaseFault>
+    ensures { Gives CaseFault.Memory (λ v. view v.now) result (field key (view tree.now)) }
+{
+    tree.get(key.name()).ok_or(CaseFault::Missing(key))
+}
+
 /// The text of a key, if the tree is an object with this key and the value is a string.
 pub fn text_at<'v>(tree: &'v Value, key: &str) -> Option<&'v str>
     ensures { option_map (λ text. text.now) result ≡ text_of_key key.now (view tree.now) }
 {
     tree.get(key).and_then(Value::as_str)
+}
+
+/// The change of the keys `step`, `reg` and `value`, of a tamper or of a manner.
+#[tactic(auto, unfolding(crate::specs::Scripts::register_in, crate::specs::Scripts::forge_in))]
+pub fn register_change_of(tree: &Value) -> Option<RegisterChange>
+    ensures tamper { option_map (λ c. Register c.step c.reg c.value) result ≡ register_in (view tree.now) }
+    ensures manner { option_map (λ c. Forge c.step c.reg c.value) result ≡ forge_in (view tree.now) }
+{
+    Some(RegisterChange {
+        step: word_at(tree, "step")?,
+        reg: RegisterNumber::new(number_at(tree, "reg", 1, 31)? as u8)?,
+        value: word_at(tree, "value")?,
+    })
+}
+
+/// The number of a key, below 2^32.
+pub fn word_at(tree: &Value, key: &str) -> Option<u32>
+    ensures { result ≡ word_of_key key.now (view tree.now) }
+{
+    Some(number_at(tree, key, 0, u64::from(u32::MAX))? as u32)
 }
 
 /// The number of a key, if the tree is an object with this key and the value a whole number from `low` to `high`.
@@ -127,11 +160,4 @@ pub fn number_at(tree: &Value, key: &str, low: u64, high: u64) -> Option<u64>
     } else {
         None
     }
-}
-
-/// The number of a key, below 2^32.
-pub fn word_at(tree: &Value, key: &str) -> Option<u32>
-    ensures { result ≡ word_of_key key.now (view tree.now) }
-{
-    Some(number_at(tree, key, 0, u64::from(u32::MAX))? as u32)
 }

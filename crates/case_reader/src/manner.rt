@@ -7,14 +7,32 @@ ghost use Rattle.rd_base.specs.declared.script.Manner.TheVariants.{Late, Silent,
 ghost use Rattle.case_reader.specs.Scripts.{number_of_key, word_of_key, output_bytes_in, forge_in, tape_in, manner_in};
 
 use crate::fault::CaseFault;
-use crate::field::{hex_bytes, number_at, text_at, word_at};
+use crate::field::{RegisterChange, hex_bytes, number_at, register_change_of, text_at, word_at};
 use crate::tape::tape_of;
 use rd_base::{
     ClaimOutput, FirstSilentRound, MAX_FIRST_SILENT_ROUND, MAX_PASSES, Manner, PassCount,
-    RegisterNumber,
 };
 use serde_json::Value;
 use std::alloc::Global;
+
+/// The manner of a value, if it is one that is known. An `Err` is `Memory`.
+#[tactic(auto, unfolding(crate::specs::Scripts::manner_in))]
+pub fn manner_of(alloc: Global, manner: &Value) -> Result<Option<Manner>, CaseFault>
+    ensures { Gives CaseFault.Memory (λ known. known) result (Ok (manner_in (view manner.now))) }
+{
+    let Some(kind) = text_at(manner, "kind") else {
+        return Ok(None);
+    };
+    match kind {
+        "late" => Ok(late_of(manner)),
+        "silent" => Ok(silent_of(manner)),
+        "output" => output_of(alloc, manner),
+        "forge" => Ok(forge_of(manner)),
+        "noise" => Ok(noise_of(manner)),
+        "tape" => taped_of(alloc, manner),
+        _ => Ok(None),
+    }
+}
 
 /// The key of the kind `late`.
 fn late_of(manner: &Value) -> Option<Manner>
@@ -47,15 +65,11 @@ fn output_of(alloc: Global, manner: &Value) -> Result<Option<Manner>, CaseFault>
 }
 
 /// The keys of the kind `forge`.
-#[tactic(auto, unfolding(crate::specs::Scripts::forge_in))]
 fn forge_of(manner: &Value) -> Option<Manner>
     ensures { result ≡ forge_in (view manner.now) }
 {
-    Some(Manner::Forge {
-        step: word_at(manner, "step")?,
-        reg: RegisterNumber::new(number_at(manner, "reg", 1, 31)? as u8)?,
-        value: word_at(manner, "value")?,
-    })
+    let RegisterChange { step, reg, value } = register_change_of(manner)?;
+    Some(Manner::Forge { step, reg, value })
 }
 
 /// The key of the kind `noise`.
@@ -72,23 +86,4 @@ fn taped_of(alloc: Global, manner: &Value) -> Result<Option<Manner>, CaseFault>
     ensures { Gives CaseFault.Memory (λ known. known) result (Ok (option_map Tape (tape_in (view manner.now)))) }
 {
     Ok(tape_of(alloc, manner)?.map(Manner::Tape))
-}
-
-/// The manner of a value, if it is one that is known. An `Err` is `Memory`.
-#[tactic(auto, unfolding(crate::specs::Scripts::manner_in))]
-pub fn manner_of(alloc: Global, manner: &Value) -> Result<Option<Manner>, CaseFault>
-    ensures { Gives CaseFault.Memory (λ known. known) result (Ok (manner_in (view manner.now))) }
-{
-    let Some(kind) = text_at(manner, "kind") else {
-        return Ok(None);
-    };
-    match kind {
-        "late" => Ok(late_of(manner)),
-        "silent" => Ok(silent_of(manner)),
-        "output" => output_of(alloc, manner),
-        "forge" => Ok(forge_of(manner)),
-        "noise" => Ok(noise_of(manner)),
-        "tape" => taped_of(alloc, manner),
-        _ => Ok(None),
-    }
 }

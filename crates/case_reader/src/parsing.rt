@@ -18,6 +18,78 @@ use rd_base::{
 use serde_json::Value;
 use std::alloc::Global;
 
+/// Reads a case.
+///
+/// What comes back is the case that the bytes hold. A fault is the first rule that is broken: the bytes are a JSON
+/// text (`NotJson`) that is an object (`NotObject`) without the key `tasks` (`OutOfRange`); then of each key in its order that it is
+/// there (`Missing`; `version`, `fan` and `stake` may be missing), has its type (`WrongType`), its hexadecimal digits (`BadHex`; the
+/// image of an assembly text has none) and its range (`OutOfRange`); and last that each prover is known (`BadProver`, by its number).
+/// `Memory` comes if memory ran out.
+#[tactic(auto, unfolding(crate::specs::Case::case_at))]
+pub fn read_case(alloc: Global, bytes: &[u8]) -> Result<Case, CaseFault>
+    ensures { Gives CaseFault.Memory data_of result (case_at bytes.now) }
+{
+    let tree = tree_of_bytes(alloc, bytes)?;
+    case_of_tree(alloc, &tree)
+}
+
+/// The JSON tree of bytes. `NotJson` comes if there is none, and `Memory` if memory ran out.
+pub fn tree_of_bytes(alloc: Global, bytes: &[u8]) -> Result<Value, CaseFault>
+    ensures { Gives CaseFault.Memory view result (ok_or (tree_of bytes.now) NotJson) }
+{
+    match Value::from_slice(alloc, bytes) {
+        Ok(tree) => Ok(tree),
+        Err(error) => {
+            if error.is_memory() {
+                Err(CaseFault::Memory)
+            } else {
+                Err(CaseFault::NotJson)
+            }
+        }
+    }
+}
+
+/// The case of a tree. A fault is the first rule that the tree breaks, as in `read_case`, or `Memory`.
+#[tactic(auto, unfolding(crate::specs::Case::case_of))]
+pub fn case_of_tree(alloc: Global, tree: &Value) -> Result<Case, CaseFault>
+    ensures { Gives CaseFault.Memory data_of result (case_of (view tree.now)) }
+{
+    if !tree.is_object() {
+        return Err(CaseFault::NotObject);
+    }
+    if has_tasks(tree) {
+        return Err(CaseFault::OutOfRange(Key::Tasks));
+    }
+    let format = format_of(tree)?;
+    let image = image_of(alloc, tree, format)?;
+    let input = input_of(alloc, tree)?;
+    let bound = number_of(tree, Key::Bound, 1, MAX_BOUND)?;
+    let patience = number_of(tree, Key::Patience, 0, MAX_PATIENCE)? as u32;
+    let version = version_of(tree)?;
+    let fan = fan_of(tree)?;
+    let stake = optional_number_of(tree, Key::Stake, 0, MAX_STAKE)?;
+    let provers = provers_of(tree)?;
+    let provers = scripts_of(alloc, provers)?;
+    Ok(Case {
+        image,
+        format,
+        input,
+        bound,
+        patience,
+        version,
+        fan,
+        stake,
+        provers,
+    })
+}
+
+/// Whether the tree is an object with the key `tasks`.
+pub fn has_tasks(tree: &Value) -> bool
+    ensures { result ≡ has_tasks (view tree.now) }
+{
+    tree.get(Key::Tasks.name()).is_some()
+}
+
 #[tactic(auto, unfolding(crate::specs::Fields::format_in))]
 fn format_of(tree: &Value) -> Result<Format, CaseFault>
     ensures { Gives CaseFault.Memory (λ format. format) result (format_in (view tree.now)) }
@@ -30,14 +102,6 @@ fn format_of(tree: &Value) -> Result<Format, CaseFault>
     }
 }
 
-/// The bytes of a key's text.
-fn text_bytes_of(alloc: Global, tree: &Value, key: Key) -> Result<Bytes, CaseFault>
-    ensures { Gives CaseFault.Memory (λ bytes. bytes) result (text_field key (view tree.now)) }
-{
-    let text = text_of(tree, key)?;
-    Ok(Bytes::new(Vec::from_slice(alloc, text.as_bytes())?))
-}
-
 #[tactic(auto, unfolding(crate::specs::Fields::image_in))]
 fn image_of(alloc: Global, tree: &Value, format: Format) -> Result<Bytes, CaseFault>
     ensures { Gives CaseFault.Memory (λ image. image) result (image_in format (view tree.now)) }
@@ -46,6 +110,14 @@ fn image_of(alloc: Global, tree: &Value, format: Format) -> Result<Bytes, CaseFa
         Format::Asm => text_bytes_of(alloc, tree, Key::Image),
         Format::Flat | Format::Elf => bytes_of(alloc, tree, Key::Image),
     }
+}
+
+/// The bytes of a key's text.
+fn text_bytes_of(alloc: Global, tree: &Value, key: Key) -> Result<Bytes, CaseFault>
+    ensures { Gives CaseFault.Memory (λ bytes. bytes) result (text_field key (view tree.now)) }
+{
+    let text = text_of(tree, key)?;
+    Ok(Bytes::new(Vec::from_slice(alloc, text.as_bytes())?))
 }
 
 #[tactic(auto, unfolding(crate::specs::Fields::input_in))]
@@ -102,76 +174,4 @@ fn provers_of(tree: &Value) -> Result<&[Value], CaseFault>
     } else {
         Err(CaseFault::OutOfRange(Key::Provers))
     }
-}
-
-/// Whether the tree is an object with the key `tasks`.
-pub fn has_tasks(tree: &Value) -> bool
-    ensures { result ≡ has_tasks (view tree.now) }
-{
-    tree.get(Key::Tasks.name()).is_some()
-}
-
-/// The case of a tree. A fault is the first rule that the tree breaks, as in `read_case`, or `Memory`.
-#[tactic(auto, unfolding(crate::specs::Case::case_of))]
-pub fn case_of_tree(alloc: Global, tree: &Value) -> Result<Case, CaseFault>
-    ensures { Gives CaseFault.Memory data_of result (case_of (view tree.now)) }
-{
-    if !tree.is_object() {
-        return Err(CaseFault::NotObject);
-    }
-    if has_tasks(tree) {
-        return Err(CaseFault::OutOfRange(Key::Tasks));
-    }
-    let format = format_of(tree)?;
-    let image = image_of(alloc, tree, format)?;
-    let input = input_of(alloc, tree)?;
-    let bound = number_of(tree, Key::Bound, 1, MAX_BOUND)?;
-    let patience = number_of(tree, Key::Patience, 0, MAX_PATIENCE)? as u32;
-    let version = version_of(tree)?;
-    let fan = fan_of(tree)?;
-    let stake = optional_number_of(tree, Key::Stake, 0, MAX_STAKE)?;
-    let provers = provers_of(tree)?;
-    let provers = scripts_of(alloc, provers)?;
-    Ok(Case {
-        image,
-        format,
-        input,
-        bound,
-        patience,
-        version,
-        fan,
-        stake,
-        provers,
-    })
-}
-
-/// The JSON tree of bytes. `NotJson` comes if there is none, and `Memory` if memory ran out.
-pub fn tree_of_bytes(alloc: Global, bytes: &[u8]) -> Result<Value, CaseFault>
-    ensures { Gives CaseFault.Memory view result (ok_or (tree_of bytes.now) NotJson) }
-{
-    match Value::from_slice(alloc, bytes) {
-        Ok(tree) => Ok(tree),
-        Err(error) => {
-            if error.is_memory() {
-                Err(CaseFault::Memory)
-            } else {
-                Err(CaseFault::NotJson)
-            }
-        }
-    }
-}
-
-/// Reads a case.
-///
-/// What comes back is the case that the bytes hold. A fault is the first rule that is broken: the bytes are a JSON
-/// text (`NotJson`) that is an object (`NotObject`) without the key `tasks` (`OutOfRange`); then of each key in its order that it is
-/// there (`Missing`; `version`, `fan` and `stake` may be missing), has its type (`WrongType`), its hexadecimal digits (`BadHex`; the
-/// image of an assembly text has none) and its range (`OutOfRange`); and last that each prover is known (`BadProver`, by its number).
-/// `Memory` comes if memory ran out.
-#[tactic(auto, unfolding(crate::specs::Case::case_at))]
-pub fn read_case(alloc: Global, bytes: &[u8]) -> Result<Case, CaseFault>
-    ensures { Gives CaseFault.Memory data_of result (case_at bytes.now) }
-{
-    let tree = tree_of_bytes(alloc, bytes)?;
-    case_of_tree(alloc, &tree)
 }

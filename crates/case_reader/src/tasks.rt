@@ -14,6 +14,41 @@ use rd_base::MAX_TASKS;
 use serde_json::Value;
 use std::alloc::Global;
 
+/// Reads one case, or under the key `tasks` the cases of 1 to 8 tasks, none of which has that key.
+///
+/// What comes back is what the bytes hold. A fault is the first rule that is broken: of the whole text (`Whole`), which is that of a
+/// case, or that `tasks` is no array (`WrongType`) or has no element or more than 8 (`OutOfRange`); or of the first task that has one
+/// (`Task`, with the task's number from 1), as of its case alone. `Memory` comes if memory ran out.
+#[tactic(auto, using(crate::proofs::TaskLemmas::whole_rules), unfolding(crate::specs::Tasks::tasks_at))]
+pub fn read_tasks(alloc: Global, bytes: &[u8]) -> Result<Tasks, TaskFault>
+    ensures value { Gives TaskFault.Memory tasks_data result (tasks_at bytes.now) }
+    ensures few { IfOk result AreFew }
+{
+    let tree = tree_of_bytes(alloc, bytes)?;
+    if has_tasks(&tree) {
+        many_of(alloc, &tree)
+    } else {
+        one_of(alloc, &tree)
+    }
+}
+
+#[tactic(auto, using(crate::proofs::TaskLemmas::whole_rules), unfolding(crate::specs::Tasks::one_of))]
+fn one_of(alloc: Global, tree: &Value) -> Result<Tasks, TaskFault>
+    ensures value { Gives TaskFault.Memory tasks_data result (one_of (view tree.now)) }
+    ensures few { IfOk result AreFew }
+{
+    Ok(Tasks::One(case_of_tree(alloc, tree)?))
+}
+
+#[tactic(auto, using(crate::proofs::TaskLemmas::whole_rules), unfolding(crate::specs::Tasks::many_of))]
+fn many_of(alloc: Global, tree: &Value) -> Result<Tasks, TaskFault>
+    ensures value { Gives TaskFault.Memory tasks_data result (many_of (view tree.now)) }
+    ensures few { IfOk result AreFew }
+{
+    let tasks = elements_of(tree)?;
+    Ok(Tasks::Many(cases_of(alloc, tasks)?))
+}
+
 #[tactic(auto, unfolding(crate::specs::Tasks::tasks_in))]
 fn elements_of(tree: &Value) -> Result<&[Value], CaseFault>
     ensures value { Gives CaseFault.Memory (λ tasks. map view tasks.now) result (tasks_in (view tree.now)) }
@@ -25,17 +60,6 @@ fn elements_of(tree: &Value) -> Result<&[Value], CaseFault>
         Ok(tasks)
     } else {
         Err(CaseFault::OutOfRange(Key::Tasks))
-    }
-}
-
-/// The case of the task of this number.
-fn case_of_task(alloc: Global, number: u32, task: &Value) -> Result<Case, TaskFault>
-    ensures { Gives TaskFault.Memory data_of result (map_fault (Task number) (case_of (view task.now))) }
-{
-    match case_of_tree(alloc, task) {
-        Ok(case) => Ok(case),
-        Err(CaseFault::Memory) => Err(TaskFault::Memory),
-        Err(fault) => Err(TaskFault::Task(number, fault)),
     }
 }
 
@@ -55,49 +79,13 @@ fn cases_of(alloc: Global, tasks: &[Value]) -> Result<Vec<Case>, TaskFault>
     Ok(cases)
 }
 
-#[tactic(auto, unfolding(crate::specs::Tasks::many_of))]
-fn many_of(alloc: Global, tree: &Value) -> Result<Tasks, TaskFault>
-    ensures value { Gives TaskFault.Memory tasks_data result (many_of (view tree.now)) }
-    ensures few { IfOk result AreFew }
+/// The case of the task of this number.
+fn case_of_task(alloc: Global, number: u32, task: &Value) -> Result<Case, TaskFault>
+    ensures { Gives TaskFault.Memory data_of result (map_fault (Task number) (case_of (view task.now))) }
 {
-    match elements_of(tree) {
-        Ok(tasks) => Ok(Tasks::Many(cases_of(alloc, tasks)?)),
+    match case_of_tree(alloc, task) {
+        Ok(case) => Ok(case),
         Err(CaseFault::Memory) => Err(TaskFault::Memory),
-        Err(fault) => Err(TaskFault::Whole(fault)),
-    }
-}
-
-#[tactic(auto, unfolding(crate::specs::Tasks::one_of))]
-fn one_of(alloc: Global, tree: &Value) -> Result<Tasks, TaskFault>
-    ensures value { Gives TaskFault.Memory tasks_data result (one_of (view tree.now)) }
-    ensures few { IfOk result AreFew }
-{
-    match case_of_tree(alloc, tree) {
-        Ok(case) => Ok(Tasks::One(case)),
-        Err(CaseFault::Memory) => Err(TaskFault::Memory),
-        Err(fault) => Err(TaskFault::Whole(fault)),
-    }
-}
-
-/// Reads one case, or under the key `tasks` the cases of 1 to 8 tasks, none of which has that key.
-///
-/// What comes back is what the bytes hold. A fault is the first rule that is broken: of the whole text (`Whole`), which is that of a
-/// case, or that `tasks` is no array (`WrongType`) or has no element or more than 8 (`OutOfRange`); or of the first task that has one
-/// (`Task`, with the task's number from 1), as of its case alone. `Memory` comes if memory ran out.
-#[tactic(auto, unfolding(crate::specs::Tasks::tasks_at))]
-pub fn read_tasks(alloc: Global, bytes: &[u8]) -> Result<Tasks, TaskFault>
-    ensures value { Gives TaskFault.Memory tasks_data result (tasks_at bytes.now) }
-    ensures few { IfOk result AreFew }
-{
-    match tree_of_bytes(alloc, bytes) {
-        Ok(tree) => {
-            if has_tasks(&tree) {
-                many_of(alloc, &tree)
-            } else {
-                one_of(alloc, &tree)
-            }
-        }
-        Err(CaseFault::Memory) => Err(TaskFault::Memory),
-        Err(fault) => Err(TaskFault::Whole(fault)),
+        Err(fault) => Err(TaskFault::Task(number, fault)),
     }
 }
