@@ -1,3 +1,4 @@
+pub mod RangeLemmas
 pub mod ReadingLemmas
 pub mod FaultLemmas
 pub mod TapeLemmas

@@ -1,5 +1,5 @@
 //! The values of keys: of a case, with a fault that names the key (`text_of`, `number_of` and their like), and of the parts of a script,
-//! with `None` for each fault (`text_at`, `number_at`, `word_at`).
+//! with `None` for each fault (`text_at`, `word_at`, `byte_at`).
 ghost use Rattle.std.specs.Prelude.{◌≤◌, map, Ok, IfOk, IfSome, ◌≡◌};
 ghost use Rattle.std.specs.Option.{option_map};
 ghost use Rattle.serde_json.specs.View.{view};
@@ -128,36 +128,38 @@ pub fn text_at<'v>(tree: &'v Value, key: &str) -> Option<&'v str>
 }
 
 /// The change of the keys `step`, `reg` and `value`, of a tamper or of a manner.
-#[tactic(auto, unfolding(crate::specs::Scripts::register_in, crate::specs::Scripts::forge_in))]
+#[tactic(auto, using(crate::proofs::RangeLemmas::range_rules), unfolding(crate::specs::Scripts::register_in, crate::specs::Scripts::forge_in))]
 pub fn register_change_of(tree: &Value) -> Option<RegisterChange>
     ensures tamper { option_map (λ c. Register c.step c.reg c.value) result ≡ register_in (view tree.now) }
     ensures manner { option_map (λ c. Forge c.step c.reg c.value) result ≡ forge_in (view tree.now) }
 {
-    Some(RegisterChange {
-        step: word_at(tree, "step")?,
-        reg: RegisterNumber::new(number_at(tree, "reg", 1, 31)? as u8)?,
-        value: word_at(tree, "value")?,
-    })
+    let step = word_at(tree, "step")?;
+    let number = byte_at(tree, "reg")?;
+    let reg = RegisterNumber::new(number)?;
+    let value = word_at(tree, "value")?;
+    Some(RegisterChange { step, reg, value })
 }
 
 /// The number of a key, below 2^32.
 pub fn word_at(tree: &Value, key: &str) -> Option<u32>
     ensures { result ≡ word_of_key key.now (view tree.now) }
 {
-    Some(number_at(tree, key, 0, u64::from(u32::MAX))? as u32)
+    Some(number_at(tree, key, u64::from(u32::MAX))? as u32)
 }
 
-/// The number of a key, if the tree is an object with this key and the value a whole number from `low` to `high`.
+/// The number of a key, below 256.
+pub fn byte_at(tree: &Value, key: &str) -> Option<u8>
+    ensures { result ≡ number_of_key key.now 0 255 (view tree.now) }
+{
+    Some(number_at(tree, key, u64::from(u8::MAX))? as u8)
+}
+
+/// The number of a key, if the tree is an object with this key and the value a whole number of at most this size.
 #[tactic(auto, unfolding(crate::specs::Scripts::number_of_key))]
-pub fn number_at(tree: &Value, key: &str, low: u64, high: u64) -> Option<u64>
-    ensures value { result ≡ number_of_key key.now low high (view tree.now) }
-    ensures from { IfSome result (λ n. low ≤ n) }
-    ensures to { IfSome result (λ n. n ≤ high) }
+fn number_at(tree: &Value, key: &str, most: u64) -> Option<u64>
+    ensures value { result ≡ number_of_key key.now 0 most (view tree.now) }
+    ensures to { IfSome result (λ n. n ≤ most) }
 {
     let number = tree.get(key)?.as_u64()?;
-    if low <= number && number <= high {
-        Some(number)
-    } else {
-        None
-    }
+    if number <= most { Some(number) } else { None }
 }

@@ -7,11 +7,9 @@ ghost use Rattle.rd_base.specs.declared.script.Manner.TheVariants.{Late, Silent,
 ghost use Rattle.case_reader.specs.Scripts.{number_of_key, word_of_key, output_bytes_in, forge_in, tape_in, manner_in};
 
 use crate::fault::CaseFault;
-use crate::field::{RegisterChange, hex_bytes, number_at, register_change_of, text_at, word_at};
+use crate::field::{RegisterChange, hex_bytes, register_change_of, text_at, word_at};
 use crate::tape::tape_of;
-use rd_base::{
-    ClaimOutput, FirstSilentRound, MAX_FIRST_SILENT_ROUND, MAX_PASSES, Manner, PassCount,
-};
+use rd_base::{ClaimOutput, FirstSilentRound, Manner, PassCount};
 use serde_json::Value;
 use std::alloc::Global;
 
@@ -35,19 +33,21 @@ pub fn manner_of(alloc: Global, manner: &Value) -> Result<Option<Manner>, CaseFa
 }
 
 /// The key of the kind `late`.
+#[tactic(auto, using(crate::proofs::RangeLemmas::range_rules))]
 fn late_of(manner: &Value) -> Option<Manner>
     ensures { result ≡ option_map Late (number_of_key (codes "passes") 0 1000 (view manner.now)) }
 {
-    let passes = number_at(manner, "passes", 0, u64::from(MAX_PASSES))?;
-    Some(Manner::Late(PassCount::new(passes as u32)?))
+    let passes = word_at(manner, "passes")?;
+    Some(Manner::Late(PassCount::new(passes)?))
 }
 
 /// The key of the kind `silent`.
+#[tactic(auto, using(crate::proofs::RangeLemmas::range_rules))]
 fn silent_of(manner: &Value) -> Option<Manner>
     ensures { result ≡ option_map Silent (number_of_key (codes "from") 0 64 (view manner.now)) }
 {
-    let from = number_at(manner, "from", 0, u64::from(MAX_FIRST_SILENT_ROUND))?;
-    Some(Manner::Silent(FirstSilentRound::new(from as u32)?))
+    let from = word_at(manner, "from")?;
+    Some(Manner::Silent(FirstSilentRound::new(from)?))
 }
 
 /// The key of the kind `output`.

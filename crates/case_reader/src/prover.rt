@@ -7,7 +7,7 @@ ghost use Rattle.case_reader.specs.Scripts.{tamper_or_untouched, manner_or_plain
 ghost use Rattle.case_reader.specs.Provers.{scripts_in};
 
 use crate::fault::CaseFault;
-use crate::field::{RegisterChange, number_at, register_change_of, text_at, word_at};
+use crate::field::{RegisterChange, byte_at, register_change_of, text_at, word_at};
 use crate::manner::manner_of;
 use rd_base::{Listed, Manner, Script, Tamper};
 use serde_json::Value;
@@ -77,7 +77,7 @@ fn flip_of(tamper: &Value) -> Option<Tamper>
     Some(Tamper::Flip {
         step: word_at(tamper, "step")?,
         addr: word_at(tamper, "addr")?,
-        mask: number_at(tamper, "mask", 0, 255)? as u8,
+        mask: byte_at(tamper, "mask")?,
     })
 }
 
