@@ -7,11 +7,11 @@
 //   - ClaimRoot: the root by which claims are compared.
 //
 // What is proved ends at the library. This package passes slices, and gives errors as types; include/coshalit.h says what each call
-// promises. All functions may be called from several goroutines at the same time; a Match belongs to one of them.
+// promises. Functions and Provers may be used by several goroutines at the same time, a Match by one goroutine only.
 //
 // A call can't be stopped, and its memory can't be bounded from Go, as the package compiles heap.c in. So bound the cases and the texts
 // that you give it. Call it in a process of its own, with a limit on its memory (RLIMIT_AS), and end that process if a call takes too long.
-// Under such a limit a call may be an OutOfMemory, or the runtime of Go may end the process.
+// Under such a limit a call may end in an OutOfMemory, or the runtime of Go may end the process.
 //
 // A call for which no room is known beforehand is made a second time if its answer has more than 4,096 bytes: Run and Prover.Answer.
 package coshalit

@@ -71,12 +71,12 @@ type Question struct {
 type Reply uint32
 
 const (
-	// Taken: it is an answer of the right kind, or a pass within the patience.
+	// Taken: the answer or the pass counts, also for a proof that will be refuted.
 	Taken Reply = 1
-	// Faulty: it is an answer of another kind, or an unsound claim. Its prover is out: by a claim at once, in a dispute as soon as the other
-	// side of the round is settled.
+	// Faulty: the answer is of another kind than asked, a list of another length, or an unsound claim. Its prover is out: by a claim at
+	// once, in a dispute as soon as the other side of the round is settled.
 	Faulty Reply = 2
-	// Spent: it is a pass beyond the patience. Its prover is out, as by Faulty.
+	// Spent: it is a pass more than the patience allows. Its prover is out, as by Faulty.
 	Spent Reply = 3
 	// Stale: it names no open question of its prover, and changes nothing.
 	Stale Reply = 4
@@ -138,7 +138,11 @@ type Settlement struct {
 // The log is what one stores, orders, signs and compares: who has the same numbers and the same log has the same match. It grows by Post
 // and Pass only. Who may call these with a prover's number can lose that prover's match: authenticate senders. The match is played anew at
 // each call: docs/OPEN_MATCH.md says what that costs, and what a host has to do.
+//
+// A Match belongs to one goroutine, and isn't to be copied: two copies would write over each other's log. `go vet` finds copies. Pass the
+// pointer, or resume a second match with the log.
 type Match struct {
+	_         notCopied
 	numbers   C.CoshalitNumbers
 	log       []byte
 	verdict   Verdict
@@ -146,13 +150,19 @@ type Match struct {
 	questions []Question
 }
 
+// `go vet` refuses copies of what has these two methods.
+type notCopied struct{}
+
+func (*notCopied) Lock()   {}
+func (*notCopied) Unlock() {}
+
 // NewMatch begins a match that nobody has posted in yet. The error is a Refusal: a number is beyond its limit, or memory ran out.
 func NewMatch(numbers Numbers) (*Match, error) {
 	return ResumeMatch(numbers, nil)
 }
 
-// ResumeMatch gives the match after a log that was stored. The error is as NewMatch's, or a NoLog. After a crash the last entry may be cut:
-// then the cause is CutOff, and the log up to At is whole.
+// ResumeMatch gives the match after a log that was stored. The error is as NewMatch's, or a NoLog. The log up to At is one. If At is in the
+// entry that was written last, a crash has cut that: cut the stored log there too, and resume with the rest.
 func ResumeMatch(numbers Numbers, log []byte) (*Match, error) {
 	match := &Match{}
 	match.numbers = C.CoshalitNumbers{
@@ -172,11 +182,11 @@ func ResumeMatch(numbers Numbers, log []byte) (*Match, error) {
 // its number from what was sent. Dispute and round are those that the sender names under its signature, or those of the question that you
 // sent it. Never take those that are open now: a late answer to the question before would become an answer to this one.
 //
-// If the bytes are no wire form, as empty ones are, the error is a NoLog: they are no answer and no pass. It is a Refusal if memory ran
-// out, and then the same post may be tried again. After an error the match is as it was.
+// The error is a NoLog if no prover has the number, or if the bytes are no wire form, as empty ones are: they are no answer and no pass. It
+// is a Refusal if memory ran out, and then the same post may be tried again. After an error the match is as it was.
 func (match *Match) Post(prover, dispute, round uint32, answer []byte) (Reply, error) {
 	if len(answer) == 0 {
-		return 0, NoLog{At: uint64(len(match.log)), Cause: NoAnswer, Rule: 1}
+		return 0, match.refused(prover, 1)
 	}
 	return match.append(prover, dispute, round, answer)
 }
@@ -266,10 +276,19 @@ func isOver(status C.uint32_t) error {
 	return err
 }
 
+// Why bytes that no entry can have are no answer, as the library says of others: the prover's number is looked at first.
+func (match *Match) refused(prover, rule uint32) NoLog {
+	at := uint64(len(match.log))
+	if prover < 1 || prover > uint32(match.numbers.provers) {
+		return NoLog{At: at, Cause: NoProver}
+	}
+	return NoLog{At: at, Cause: NoAnswer, Rule: rule}
+}
+
 // Appends an entry, if the log with it is one.
 func (match *Match) append(prover, dispute, round uint32, answer []byte) (Reply, error) {
 	if uint64(len(answer)) > math.MaxUint32 {
-		return 0, NoLog{At: uint64(len(match.log)), Cause: NoAnswer, Rule: 4}
+		return 0, match.refused(prover, 4)
 	}
 	log := match.log
 	for _, word := range []uint32{prover, dispute, round, uint32(len(answer))} {

@@ -111,6 +111,10 @@ func TestBytesThatAreNoAnswerAreNotKept(t *testing.T) {
 	}
 	_, err = match.Pass(3, 0, 0)
 	wants(t, "no prover", err, error(NoLog{At: at, Cause: NoProver}))
+	for _, prover := range []uint32{0, 3} {
+		_, err = match.Post(prover, 0, 0, nil)
+		wants(t, "no prover", err, error(NoLog{At: at, Cause: NoProver}))
+	}
 	wants(t, "log", match.Log(), log)
 	wants(t, "questions", match.Questions(), asked)
 }

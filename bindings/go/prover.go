@@ -5,8 +5,8 @@ import "C"
 
 import "unsafe"
 
-// Prover has the true answers of the run of a case. A prover that posts what it gives, in time, is never out if nobody else posts in its
-// name.
+// Prover has the true answers of the run of a case. In a match with the case's version, bound and start root, a prover that posts what it
+// gives, in time, is never out if nobody else posts in its name.
 //
 // Nothing is kept between two calls. Each makes a tree of all pages of the image, and all but StartRoot run the program from step 0 on.
 // With the fan 2 that is up to 34 answers for the claim and one dispute. So for a long run fetch many roots at once by RootsAt, and send those
