@@ -7,7 +7,9 @@
 
 The library is the file that COSHALIT_LIBRARY names, else libcoshalit_c.so beside this module, else the system's; `load` takes another one.
 What is proved ends at the library. This module passes bytes, and gives refusals as exceptions; include/coshalit.h says what each call
-promises. What is taken as bytes may also be a bytearray or a memoryview.
+promises. What is taken as bytes may also be a bytearray or a memoryview; of anything else it is a TypeError. All other refusals are an
+Error, also those of numbers that a sender chose. Functions and Provers may be used by several threads at the same time; a Match belongs to
+one thread.
 
 A call can't be stopped, and its memory can't be bounded from here, as the shared library has heap.c inside. So bound the cases and the
 texts that you give it. Call it in a process of its own, in which `resource.setrlimit(resource.RLIMIT_AS, ..)` limits the memory, and end that
@@ -56,9 +58,10 @@ class Ruling(enum.IntEnum):
 
 
 class Reply(enum.IntEnum):
-    """What came of a post. A taken one is an answer of the right kind, or a pass within the patience. By a faulty or a spent one its prover
-    is out: by a claim at once, in a dispute as soon as the other side of the round is settled. A stale one names no open question of its
-    prover, and changes nothing."""
+    """What came of a post. By a taken one the answer or the pass counts, also for a proof that will be refuted. A faulty one is an answer of
+    another kind than asked, a list of another length, or an unsound claim. A spent one is a pass more than the patience allows. By a faulty
+    or a spent one its prover is out: by a claim at once, in a dispute as soon as the other side of the round is settled. A stale one names
+    no open question of its prover, and changes nothing."""
 
     TAKEN = 1
     FAULTY = 2
@@ -86,6 +89,10 @@ class Verdict(enum.Enum):
 
 class Error(Exception):
     """The library gives no answer."""
+
+
+class BadValue(Error, ValueError):
+    """What is given can't be passed on: a number that is no int or is beyond the type of the header, or a root that hasn't 32 bytes."""
 
 
 class StepRefused(Error):
@@ -189,8 +196,8 @@ def load(path):
 
 def _number(value, kind=_WIDE):
     """The number, if C's type holds it: ctypes would cut it."""
-    if not 0 <= value < 1 << 8 * ctypes.sizeof(kind):
-        raise ValueError(f"{value} is no number of {8 * ctypes.sizeof(kind)} bits")
+    if not isinstance(value, int) or not 0 <= value < 1 << 8 * ctypes.sizeof(kind):
+        raise BadValue(f"no number of {8 * ctypes.sizeof(kind)} bits")
     return value
 
 
@@ -312,16 +319,18 @@ class Match:
 
     The log is what one stores, orders, signs and compares: who has the same numbers and the same log has the same match. It grows by `post`
     and `pass_` only. WHOEVER MAY CALL THESE WITH A PROVER'S NUMBER CAN LOSE THAT PROVER'S MATCH: authenticate senders. The match is played
-    anew at each call: docs/OPEN_MATCH.md says what that costs, and what a host has to do."""
+    anew at each call: docs/OPEN_MATCH.md says what that costs, and what a host has to do. A Match belongs to one thread: give another one
+    the log."""
 
     def __init__(self, numbers, log=b""):
-        """A match of these Numbers that nobody has posted in, or the one after a log that was stored. Refused if a number is beyond its
-        limit, and NoLog if the bytes are no log. After a crash the last entry may be cut: then the cause is 1, and the log up to `at` is
-        whole."""
+        """A match of these Numbers that nobody has posted in, or the one after a log that was stored. BadValue or Refused if a number is
+        beyond its limit, Refused if memory ran out, and NoLog if the bytes are no log. The log up to `at` is one. If `at` is in the entry
+        that was written last, a crash has cut that: cut the stored log there too, and resume with the rest."""
         words = [_number(value, _WORD) for value in (numbers.version, numbers.provers, numbers.fan, numbers.patience)]
-        if len(numbers.start) != ROOT_BYTES:
-            raise ValueError(f"a root has {ROOT_BYTES} bytes")
-        self._numbers = _Numbers(*words, _number(numbers.bound), (ctypes.c_uint8 * ROOT_BYTES)(*numbers.start))
+        start = _bytes(numbers.start)
+        if len(start) != ROOT_BYTES:
+            raise BadValue(f"a root has {ROOT_BYTES} bytes")
+        self._numbers = _Numbers(*words, _number(numbers.bound), (ctypes.c_uint8 * ROOT_BYTES)(*start))
         self._play(_bytes(log))
 
     @property
@@ -350,25 +359,31 @@ class Match:
         question that you sent it. Never take those that are open now: a late answer to the question before would become an answer to this
         one.
 
-        NoLog if the bytes are no wire form, as empty ones are: they are no answer and no pass. Refused if memory ran out, and then the same
-        post may be tried again. After an error the match is as it was."""
+        NoLog if no prover has the number, or if the bytes are no wire form, as empty ones are: they are no answer and no pass. BadValue if
+        a number, or the length of the answer, is none of 32 bits. Refused if memory ran out, and then the same post may be tried again.
+        After an error the match is as it was."""
+        answer = _bytes(answer)
         if not answer:
-            raise NoLog(len(self._log), 3, 1)
+            # As the library says of other bytes that are no wire form: the prover's number is looked at first.
+            is_prover = 1 <= _number(prover, _WORD) <= self._numbers.provers
+            raise NoLog(len(self._log), 3 if is_prover else 2, 1 if is_prover else 0)
         return self._append(prover, dispute, round_, answer)
 
     def pass_(self, prover, dispute, round_):
         """Appends a pass of a prover that is late: the Reply. Append one for each full period without an answer. How long a period is you
-        choose; the match counts passes, and not time. A prover is out by one pass more than the patience."""
+        choose; the match counts passes, and not time. A prover is out by one pass more than the patience. Errors are as of `post`."""
         return self._append(prover, dispute, round_, b"")
 
     def text(self):
         """The full text of a match that is over, as bytes, which anybody can audit; None while a question is open."""
-        status, text = _answered("match_text", 4 * len(self._log) + 1024, ctypes.byref(self._numbers), self._log, len(self._log))
+        log = self._log
+        status, text = _answered("match_text", 4 * len(log) + 1024, ctypes.byref(self._numbers), log, len(log))
         return text if self._is_over(status) else None
 
     def balances(self, stake):
         """What the provers of a match that is over have, if each put down this stake, by the Settlement in which one that is lost in a
-        dispute goes to the other side, or to the pool; None while a question is open. Refused if the stake is beyond its limit."""
+        dispute goes to the other side, or to the pool; None while a question is open. BadValue or Refused if the stake is beyond its
+        limit."""
         return self._settled("match_balances", stake)
 
     def burned(self, stake):
@@ -377,8 +392,8 @@ class Match:
 
     def _settled(self, name, stake):
         balances, pool = (_WIDE * MOST_PROVERS)(), _WIDE()
-        log = self._log, len(self._log)
-        status = _call(name, ctypes.byref(self._numbers), _number(stake), *log, balances, MOST_PROVERS, ctypes.byref(pool))
+        log = self._log
+        status = _call(name, ctypes.byref(self._numbers), _number(stake), log, len(log), balances, MOST_PROVERS, ctypes.byref(pool))
         return Settlement(tuple(balances[: self._numbers.provers]), pool.value) if self._is_over(status) else None
 
     def _is_over(self, status):
@@ -387,7 +402,6 @@ class Match:
         return status != Status.STILL_OPEN
 
     def _append(self, prover, dispute, round_, answer):
-        answer = _bytes(answer)
         words = [_number(value, _WORD) for value in (prover, dispute, round_, len(answer))]
         self._play(self._log + struct.pack("<IIII", *words) + answer)
         return Reply(self._found.reply)
@@ -409,8 +423,8 @@ class Match:
 
 
 class Prover:
-    """The true answers of the run of a case, a JSON text as bytes. A prover that posts what it gives, in time, is never out if nobody else
-    posts in its name.
+    """The true answers of the run of a case, a JSON text as bytes. In a match with the case's version, bound and start root, a prover that
+    posts what it gives, in time, is never out if nobody else posts in its name.
 
     Nothing is kept between two calls. Each makes a tree of all pages of the image, and all but `start_root` run the program from step 0 on.
     With the fan 2 that is up to 34 answers for the claim and one dispute. So for a long run fetch many roots at once by `roots_at`, and
@@ -425,14 +439,14 @@ class Prover:
 
     def roots_at(self, steps):
         """The roots of the states after these many steps each, in the order in which the steps are given; all are reached by one run.
-        Refused if a step is above the bound."""
+        Refused if a step is above the bound, and BadValue if it is no number of 64 bits."""
         room = ROOT_BYTES * len(steps) + OF_A_REFUSAL
         text = _done("roots_at", room, self.case, (_WIDE * len(steps))(*map(_number, steps)), len(steps))
         return [text[at : at + ROOT_BYTES] for at in range(0, len(text), ROOT_BYTES)]
 
     def answer(self, question):
-        """The true answer to a Question of a match of the case, as a wire form; Refused if no match of the case asks it. It makes a tree of
-        the image, and runs the program up to the step that is asked. It does so twice for a claim whose output has more than 3,974
-        bytes."""
+        """The true answer to a Question of a match of the case, as a wire form; Refused if no match of the case asks it, and BadValue if one
+        of its numbers is beyond the type of the header. It makes a tree of the image, and runs the program up to the step that is asked. It
+        does so twice for a claim whose output has more than 3,974 bytes."""
         kind, parts = _number(question.kind, _WORD), _number(question.parts, _WORD)
         return _done("answer", FIRST_ROOM, self.case, kind, _number(question.low), _number(question.high), parts)

@@ -122,6 +122,8 @@ class Matches(unittest.TestCase):
         for answer, rule in (b"", 1), (b"\2abc", 1), (b"\7", 2):
             self.assert_no_log(len(match.log), 3, rule, match.post, 2, 0, 0, answer)
         self.assert_no_log(len(match.log), 2, 0, match.pass_, 3, 0, 0)
+        for prover in 0, 3:
+            self.assert_no_log(len(match.log), 2, 0, match.post, prover, 0, 0, b"")
         self.assertEqual((match.log, match.questions), before)
 
     def test_a_pass_beyond_the_patience_puts_out(self):
@@ -147,6 +149,7 @@ class Matches(unittest.TestCase):
             lambda: Prover(OF_2A.decode()),
             lambda: Match(numbers(1), 100),
             lambda: Match(numbers(1)).post(1, 0, 0, "2a"),
+            lambda: Match(numbers(1)).post(1, 0, 0, None),
             lambda: coshalit_c.audit("confirmed"),
             lambda: coshalit_c.check_step(1, START.hex(), b""),
         ):
@@ -193,11 +196,14 @@ class Matches(unittest.TestCase):
             lambda: Match(numbers(2)).balances(-1),
             lambda: Match(numbers(2)).pass_(2**32 + 1, 0, 0),
             lambda: Match(numbers(2)).post(-1, 0, 0, b"\2" + bytes(32)),
+            lambda: Match(numbers(2)).post("1", 0, 0, b""),
+            lambda: Match(numbers(2)).post(1, 0.5, 0, b"\2" + bytes(32)),
+            lambda: Match(numbers(2)).burned(None),
             lambda: Prover(OF_2A).roots_at([2**64]),
             lambda: Prover(OF_2A).answer(Question(1, 1, 1, Kind.ROOT, low=2**64)),
             lambda: coshalit_c.check_step(2**32 + 1, START, b""),
         ):
-            self.assertRaises(ValueError, call)
+            self.assertRaises(coshalit_c.BadValue, call)
 
     def test_the_honest_prover_has_the_stakes_of_two_liars(self):
         """As the transcript of examples/stakes_of_two_liars says."""
