@@ -2,9 +2,8 @@
 
 use crate::errors::Error;
 use alloc::string::String;
-use alloc::vec;
 use alloc::vec::Vec;
-use coshalit_sys::{COSHALIT_DONE, CoshalitAnswer, coshalit_audit, coshalit_list, coshalit_run};
+use coshalit_sys::{COSHALIT_DONE, COSHALIT_OUT_OF_MEMORY, CoshalitAnswer, coshalit_audit, coshalit_list, coshalit_run};
 
 /// How many bytes a text may have, where no length is known beforehand, before a call is made a second time for it.
 pub(crate) const FIRST_ROOM: usize = 4096;
@@ -52,18 +51,27 @@ fn command(call: Command, bytes: &[u8], room: usize) -> Result<String, Error> {
     done(status, text).map(in_letters)
 }
 
-/// What a call answers: its status and its whole text. It is called again if its text is longer than the first room.
+/// What a call answers: its status and its whole text. It is called again if its text is longer than the first room. If there is no memory
+/// for a room, the status is that of memory that ran out.
 pub(crate) fn text_of(size: usize, call: impl Fn(&mut [u8]) -> CoshalitAnswer) -> (u32, Vec<u8>) {
-    let mut room = vec![0; size];
+    let mut size = size;
     loop {
+        let Some(mut room) = room_of(size) else { return (COSHALIT_OUT_OF_MEMORY, Vec::new()) };
+        room.resize(size, 0);
         let found = call(&mut room);
-        let is_whole = found.length <= room.len();
-        room.resize(found.length, 0);
-        if is_whole {
-            room.shrink_to_fit();
+        if found.length <= size {
+            room.truncate(found.length);
             return (found.status, room);
         }
+        size = found.length;
     }
+}
+
+/// An empty list with room for so many items; nothing if there is no memory for it.
+pub(crate) fn room_of<Item>(count: usize) -> Option<Vec<Item>> {
+    let mut room = Vec::new();
+    room.try_reserve_exact(count).ok()?;
+    Some(room)
 }
 
 /// The text of an answer, or the refusal that it is.
@@ -74,4 +82,15 @@ pub(crate) fn done(status: u32, text: Vec<u8>) -> Result<Vec<u8>, Error> {
 /// Each text of a command is of ASCII letters.
 fn in_letters(text: Vec<u8>) -> String {
     String::from_utf8(text).unwrap_or_else(|other| String::from_utf8_lossy(other.as_bytes()).into_owned())
+}
+
+#[cfg(test)]
+mod tests {
+    use super::*;
+
+    #[test]
+    fn without_memory_for_a_room_memory_ran_out() {
+        assert_eq!(text_of(usize::MAX, |_| unreachable!()), (COSHALIT_OUT_OF_MEMORY, Vec::new()));
+        assert_eq!(done(COSHALIT_OUT_OF_MEMORY, Vec::new()), Err(Error::OutOfMemory));
+    }
 }

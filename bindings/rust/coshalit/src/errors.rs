@@ -98,7 +98,7 @@ pub enum LogCause {
     NoProver,
     /// The answer's bytes are no wire form: `rule` is the number of the fault in the table of docs/COMMITMENTS.md ('Wire forms').
     NoAnswer { rule: u32 },
-    /// A cause of a later version of the library.
+    /// A cause of a later major version of the library.
     Other(u32),
 }
 

@@ -1,7 +1,7 @@
 //! A match among parties of one's own, as a log of posts.
 
 use crate::Root;
-use crate::answers::text_of;
+use crate::answers::{room_of, text_of};
 use crate::errors::{LogCause, MatchError};
 use alloc::vec::Vec;
 use coshalit_sys::{
@@ -12,6 +12,9 @@ use coshalit_sys::{
 
 /// A match has at most so many provers, and so many open questions.
 const MOST_PROVERS: usize = 16;
+
+/// How many bytes an entry of the log has before its answer.
+const ENTRY_BYTES: usize = 16;
 
 /// The kinds of questions. A proof is of the kind 3 in each version of the commitments.
 const CLAIM: u32 = 1;
@@ -83,12 +86,12 @@ pub enum Post<'a> {
 /// What came of a post.
 #[derive(Clone, Copy, Debug, PartialEq, Eq)]
 pub enum Reply {
-    /// It is an answer of the right kind, or a pass within the patience.
+    /// The answer or the pass counts, also for a proof that will be refuted.
     Taken,
-    /// It is an answer of another kind, or an unsound claim. Its prover is out: by a claim at once, in a dispute as soon as the other side of
-    /// the round is settled.
+    /// The answer is of another kind than asked, a list of another length, or an unsound claim. Its prover is out: by a claim at once, in a
+    /// dispute as soon as the other side of the round is settled.
     Faulty,
-    /// It is a pass beyond the patience. Its prover is out, as by [`Faulty`](Reply::Faulty).
+    /// It is a pass more than the patience allows. Its prover is out, as by [`Faulty`](Reply::Faulty).
     Spent,
     /// It names no open question of its prover, and changes nothing.
     Stale,
@@ -135,19 +138,21 @@ impl Match {
     ///
     /// [`MatchError::BadNumbers`] if a number is beyond its limit, [`MatchError::OutOfMemory`].
     pub fn new(numbers: Numbers) -> Result<Match, MatchError> {
-        Match::resume(numbers, Vec::new())
+        Match::resume(numbers, &[])
     }
 
-    /// The match after a log that was stored. After a crash the last entry may be cut: then the cause is [`LogCause::CutOff`], and the log up
-    /// to `at` is whole.
+    /// The match after a log that was stored.
     ///
     /// # Errors
     ///
-    /// As [`new`](Match::new), and [`MatchError::BadLog`] with the place of the first entry that is none.
-    pub fn resume(numbers: Numbers, log: Vec<u8>) -> Result<Match, MatchError> {
+    /// As [`new`](Match::new), and [`MatchError::BadLog`] with the place of the first entry that is none. The log up to `at` is one. If `at`
+    /// is in the entry that was written last, a crash has cut that: cut the stored log there too, and resume with the rest.
+    pub fn resume(numbers: Numbers, log: &[u8]) -> Result<Match, MatchError> {
         let Numbers { version, provers, fan, patience, bound, start } = numbers;
         let numbers = CoshalitNumbers { version, provers, fan, patience, bound, start };
-        let mut begun = Match { numbers, log, status: COSHALIT_STILL_OPEN, found: CoshalitMatch::default(), questions: Vec::new() };
+        let mut own = room_of(log.len()).ok_or(MatchError::OutOfMemory)?;
+        own.extend_from_slice(log);
+        let mut begun = Match { numbers, log: own, status: COSHALIT_STILL_OPEN, found: CoshalitMatch::default(), questions: Vec::new() };
         begun.play()?;
         Ok(begun)
     }
@@ -158,18 +163,18 @@ impl Match {
     ///
     /// # Errors
     ///
-    /// [`MatchError::BadLog`] if no prover has the number, or if the bytes are no wire form: such bytes are no answer, and no pass.
-    /// [`MatchError::OutOfMemory`]: the same post may be tried again. After any error the match is as it was.
+    /// [`MatchError::BadLog`] if no prover has the number, or if the bytes are no wire form, as empty ones are: such bytes are no answer, and
+    /// no pass. [`MatchError::OutOfMemory`]: the same post may be tried again. After any error the match is as it was.
     pub fn post(&mut self, prover: u32, number: Number, post: Post<'_>) -> Result<Reply, MatchError> {
         let before = self.log.len();
         let answer = match post {
-            Post::Answer([]) => return Err(MatchError::BadLog { at: before as u64, cause: LogCause::NoAnswer { rule: 1 } }),
+            Post::Answer([]) => return Err(self.refused(prover, 1)),
             Post::Answer(bytes) => bytes,
             Post::Pass => &[],
         };
         // A longer answer is no wire form.
-        let length =
-            u32::try_from(answer.len()).map_err(|_| MatchError::BadLog { at: before as u64, cause: LogCause::NoAnswer { rule: 4 } })?;
+        let length = u32::try_from(answer.len()).map_err(|_| self.refused(prover, 4))?;
+        self.log.try_reserve(ENTRY_BYTES + answer.len()).map_err(|_| MatchError::OutOfMemory)?;
         for word in [prover, number.dispute, number.round, length] {
             self.log.extend_from_slice(&word.to_le_bytes());
         }
@@ -233,13 +238,24 @@ impl Match {
         &self.log
     }
 
+    /// Why bytes that no entry can have are no answer, as the library says of others: the prover's number is looked at first.
+    fn refused(&self, prover: u32, rule: u32) -> MatchError {
+        let is_prover = (1..=self.numbers.provers).contains(&prover);
+        MatchError::BadLog { at: self.log.len() as u64, cause: if is_prover { LogCause::NoAnswer { rule } } else { LogCause::NoProver } }
+    }
+
     fn settled(&self, call: Settle, stake: u64) -> Result<Option<Settlement>, MatchError> {
         let (mut balances, mut pool) = ([0; MOST_PROVERS], 0);
         // SAFETY: as in `text`.
         let status =
             unsafe { call(&self.numbers, stake, self.log.as_ptr(), self.log.len(), balances.as_mut_ptr(), balances.len(), &mut pool) };
+        if !self.is_over(status)? {
+            return Ok(None);
+        }
         let provers = self.numbers.provers as usize;
-        Ok(self.is_over(status)?.then(|| Settlement { balances: balances[..provers].to_vec(), pool }))
+        let mut own = room_of(provers).ok_or(MatchError::OutOfMemory)?;
+        own.extend_from_slice(&balances[..provers]);
+        Ok(Some(Settlement { balances: own, pool }))
     }
 
     /// Whether a call with this status found the match at its end.
@@ -264,8 +280,12 @@ impl Match {
         if !self.log.is_empty() {
             reply_of(found.reply)?;
         }
-        self.questions = asked[..found.asked as usize].iter().map(Question::of).collect::<Result<_, _>>()?;
-        (self.status, self.found) = (status, found);
+        let asked = &asked[..found.asked as usize];
+        let mut questions = room_of(asked.len()).ok_or(MatchError::OutOfMemory)?;
+        for one in asked {
+            questions.push(Question::of(one)?);
+        }
+        (self.status, self.found, self.questions) = (status, found, questions);
         Ok(())
     }
 }

@@ -1,6 +1,6 @@
 //! A prover of one's own.
 
-use crate::answers::{FIRST_ROOM, OF_A_REFUSAL, done, text_of};
+use crate::answers::{FIRST_ROOM, OF_A_REFUSAL, done, room_of, text_of};
 use crate::errors::Error;
 use crate::matches::Question;
 use crate::{ROOT_BYTES, Root};
@@ -9,7 +9,8 @@ use coshalit_sys::{coshalit_answer, coshalit_roots_at, coshalit_start_root};
 
 /// The true answers of the run of a case.
 ///
-/// A prover that posts what it gives, in time, is never out if nobody else posts in its name.
+/// In a match with the case's version, bound and start root, a prover that posts what it gives, in time, is never out if nobody else posts
+/// in its name.
 ///
 /// Nothing is kept between two calls. Each makes a tree of all pages of the image, and all but [`start_root`](Prover::start_root) run the
 /// program from step 0 on. With the fan 2 that is up to 34 answers for the claim and one dispute. So for a long run fetch many roots at
@@ -49,8 +50,10 @@ impl Prover {
         let (status, text) = text_of(ROOT_BYTES * steps.len() + OF_A_REFUSAL, |room| unsafe {
             coshalit_roots_at(self.case.as_ptr(), self.case.len(), steps.as_ptr(), steps.len(), room.as_mut_ptr(), room.len())
         });
-        let roots = done(status, text)?;
-        Ok(roots_in(&roots).collect())
+        let text = done(status, text)?;
+        let mut roots = room_of(steps.len()).ok_or(Error::OutOfMemory)?;
+        roots.extend(roots_in(&text));
+        Ok(roots)
     }
 
     /// The true answer to a question of a match of the case, as a wire form. It makes a tree of the image, and runs the program up to the step

@@ -119,7 +119,9 @@ fn bytes_that_are_no_answer_are_not_kept() {
         let why = MatchError::BadLog { at, cause: LogCause::NoAnswer { rule } };
         assert_eq!(game.post(2, CLAIM, Post::Answer(answer)), Err(why));
     }
-    assert_eq!(game.post(3, CLAIM, Post::Pass), Err(MatchError::BadLog { at, cause: LogCause::NoProver }));
+    for (prover, post) in [(3, Post::Pass), (3, Post::Answer(b"")), (0, Post::Answer(b""))] {
+        assert_eq!(game.post(prover, CLAIM, post), Err(MatchError::BadLog { at, cause: LogCause::NoProver }));
+    }
     assert_eq!((game.log(), game.questions()), (&log[..], &asked[..]));
 }
 
@@ -143,9 +145,9 @@ fn nobody_is_left_if_all_fall_silent() {
 #[test]
 fn a_stored_log_is_the_same_match() {
     let game = played(&[CASE, OTHER_CASE], numbers(2, 0));
-    let again = Match::resume(numbers(2, 0), game.log().to_vec()).unwrap();
+    let again = Match::resume(numbers(2, 0), game.log()).unwrap();
     assert_eq!((again.verdict(), again.text()), (game.verdict(), game.text()));
-    let cut = game.log()[..game.log().len() - 1].to_vec();
+    let cut = &game.log()[..game.log().len() - 1];
     assert!(matches!(Match::resume(numbers(2, 0), cut), Err(MatchError::BadLog { cause: LogCause::CutOff, .. })));
 }
 
