@@ -18,14 +18,15 @@
  * know for a refusal.
  *
  * Every call:
- * - takes a slice as a pointer and a number of items. The items are bytes unless the type says otherwise. If the number is 0, the pointer
- *   may be null; else it is not null. `numbers`, `found` and `pool` are single items: they are never null. A pointer that isn't null is
+ * - takes a slice as a pointer and a number of items. The items are bytes unless the type says otherwise. A slice of no items may have a
+ *   null pointer; no other slice may. `numbers`, `found` and `pool` are single items: they are never null. A pointer that isn't null is
  *   aligned for its type. What is read may overlap with something else that is read. What is written (`next`, `room`, `root`, `found`,
  *   `asked`, `balances`, `pool`) overlaps with nothing.
  * - takes any items and any lengths, returns, and keeps nothing. The same arguments give the same answer, unless memory runs out.
  * - writes what is described at the call, and to no other byte of the caller.
- * - may run in several threads at the same time, if what each writes is its own and malloc may be called from them. Not in a signal
- *   handler. In a child after fork and before exec only if malloc may be called there: in general not if the parent had several threads.
+ * - may run in several threads at the same time, if what each writes is its own and malloc may be called from them. Don't call it in a
+ *   signal handler. Call it in a child after fork and before exec only if malloc may be called there: in general it may not if the parent
+ *   had several threads.
  * - needs stack: give a thread 1 MiB or more.
  * - can't be stopped. To be able to stop it, run it in a process of its own, and end that process. To bound its time, bound what you give
  *   it. A call that takes a case reads its text and loads its image. coshalit_run, coshalit_roots_at and coshalit_answer run its program
@@ -120,9 +121,9 @@ uint32_t coshalit_check_step(uint32_t version, const uint8_t *root, size_t root_
  * all the work again. The status and the text are those of the program's command `audit` on these bytes (proved).
  *
  * What `confirmed` doesn't say:
- * - that the text is of your case. Compare line 1: the root after `start` with that of coshalit_start_root, version and bound with the
- *   case's, and provers, patience and fan with those that you agreed on, which needn't be the case's;
- * - anything, by another digest than SHA-256: refuse a text unless line 1 says `digest sha256`;
+ * - that the text is of your case. So compare line 1. The root after `start` has to be that of coshalit_start_root, and version and bound
+ *   those of the case. The number of provers, the patience and the fan have to be those that you agreed on; they needn't be the case's;
+ * - anything at all if line 1 has another digest than `digest sha256`: refuse such a text;
  * - that anybody sent these answers, or that a prover whose answer is missing had the time for it. */
 CoshalitAnswer coshalit_audit(const uint8_t *text, size_t text_length, uint8_t *room, size_t room_length);
 
@@ -145,8 +146,8 @@ CoshalitAnswer coshalit_list(const uint8_t *json, size_t json_length, uint8_t *r
  *
  * `prover` counts from 1; `dispute` and `round` name the question; the answer is a wire form (docs/COMMITMENTS.md), and with the length
  * 0 the entry is a pass. So don't append an empty answer that somebody sends: it would be a pass in the sender's name. Entries of several
- * open questions may come in any order. An entry that doesn't name its prover's open question is stale, and changes nothing: keep it or
- * drop it. After the end of a match each entry is stale.
+ * open questions may come in any order. An entry that doesn't name its prover's open question is stale, and changes nothing. The reply says
+ * so once you have tried it: take it back, or keep it if logs may grow. After the end of a match each entry is stale.
  *
  * WHOEVER MAY APPEND AN ENTRY WITH A PROVER'S NUMBER CAN LOSE THAT PROVER'S MATCH: authenticate senders, and write `prover` and `length`
  * yourself. Never give an answer the number of the question that is open now: it may be a late answer to the question before. Take the
