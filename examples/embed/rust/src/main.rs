@@ -43,6 +43,7 @@ fn ruling_on(line: &str) -> Option<String> {
         Err(StepRefused::NotOpen) => "not open".to_owned(),
         Err(StepRefused::WrongShape) => "wrong shape".to_owned(),
         Err(StepRefused::NoProof) => "no proof".to_owned(),
+        Err(StepRefused::Other(ruling)) => format!("ruling {ruling}"),
     })
 }
 
