@@ -341,9 +341,9 @@ ways-same : (digest : List ℕ → List ℕ) (ws : List Way) → ways_collision 
 ways-same digest [] = refl
 ways-same digest (w ∷ ws) = ap (λ found. option_or found (ways_collision digest ws ws)) (collision_of_same digest (way_texts digest w)) ∙ ways-same digest ws
 
-pub no_collision_of_equal : (digest : List ℕ → List ℕ) (version : ℕ) (a : Digest32) (x : Facts) → step_collision digest version a x x ≡ None
+pub no_collision_of_one_proof : (digest : List ℕ → List ℕ) (version : ℕ) (a : Digest32) (x : Facts) → step_collision digest version a x x ≡ None
 unfolding step_collision
-no_collision_of_equal digest version a x = go (opens_in digest version a x)
+no_collision_of_one_proof digest version a x = go (opens_in digest version a x)
   where
     neither : (first other : Option (List ℕ × List ℕ)) → first ≡ None → other ≡ None → option_or first other ≡ None
     neither first other one two = ap (λ o. option_or o other) one ∙ two
