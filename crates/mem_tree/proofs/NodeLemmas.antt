@@ -1,11 +1,15 @@
 -- The nodes of a tree that is kept are those of its memory.
-use Rattle.std.proofs.Common.{◌≡◌, ℕ, zero, suc, ◌+◌, ◌*◌, ◌-◌, ◌/◌, ◌%◌, ◌^◌, ◌<◌, ◌≤◌, List, [], Option, Some, None, true≢false, refl, sym, ap, ◌∙◌, subst, arith}
+use Rattle.std.proofs.Common.{◌≡◌, ℕ, zero, suc, ◌+◌, ◌*◌, ◌-◌, ◌/◌, ◌%◌, ◌^◌, ◌<◌, ◌≤◌, List, [], Option, Some, None, true≢false, refl, sym, ap, ◌∙◌, subst, arith, ⊎_elim, take}
 use Rattle.std.proofs.Math.Nat.{pow-suc}
+use Rattle.std.proofs.lemmas.Bool.{cases_eq, eq-eqb, ne_eqb}
+use Rattle.std.proofs.lemmas.List.{get_or-take}
+use Rattle.std.proofs.lemmas.Nat.{pow_below}
 use Rattle.rd_base.specs.declared.digest.Digest32.{Digest32}
 use Rattle.mem_plain.specs.Contents.{Contents, IsUsed}
 use Rattle.digest_core.specs.Text.{node_text, leaf_text}
-use Rattle.merkle_nodes.specs.Node.{node, digest_at}
+use Rattle.merkle_nodes.specs.Node.{node, beside, digest_at}
 use Rattle.merkle_nodes.specs.Heap.{IsHeap}
+use Rattle.merkle_nodes.specs.Opening.{IsPath}
 use Rattle.mem_tree.specs.Memory.{memory_leaf, memory_node}
 use Rattle.mem_tree.specs.Page.{AreEmpty, IsMadeTree, IsPageOf, heap_node, leaf_of, place_of}
 use Rattle.mem_tree.specs.Tree.{Kept, AllMade, IsJoinedBut, page_at, page_node, upper_node}
@@ -106,3 +110,47 @@ module _ (heaps : HeapLaw) (same : SameLaw) (unused : EmptyLaw) (digest : List �
       ∙ (ap (λ x. digest (node_text x (upper_node t n (2 * k + 1)))) (node-over joined n (2 * k) (omega arith))
       ∙ (ap (λ y. digest (node_text (memory_node digest m (7 + n) (2 * k)) y)) (node-over joined n (2 * k + 1) (omega arith))
       ∙ (sym (node-suc digest (memory_leaf m) (7 + n) k) ∙ ap (λ i. memory_node digest m i k) up))))
+
+-- THE PATH OF A CHUNK WITHIN ITS PAGE
+
+beside-is : (k : ℕ) → beside k ≡ 2 * (k / 2) + (1 - k % 2)
+beside-is k = ⊎_elim
+    (λ even. rw (eq-eqb (k % 2) 0 even) (omega arith))
+    (λ odd. rw (ne_eqb (k % 2) 0 odd) (omega arith))
+    (cases_eq (k % 2) 0)
+
+-- the place beside a chunk's way is in the chunk's page, and there beside the way of the chunk's place
+abbrev IsBesideIn : ℕ → ℕ → ℕ → Type 0
+IsBesideIn c w v = w < 128 → (beside (c / w) / v ≡ c / 128) × (beside (c / w) % v ≡ beside (c % 128 / w))
+
+is-beside : (c l : ℕ) → l ≤ 7 → AtLevel (IsBesideIn c) l
+is-beside c = by-level (IsBesideIn c)
+    (let a = beside-is (c / 1) in let b = beside-is (c % 128 / 1) in λ low. (omega arith, omega arith))
+    (let a = beside-is (c / 2) in let b = beside-is (c % 128 / 2) in λ low. (omega arith, omega arith))
+    (let a = beside-is (c / 4) in let b = beside-is (c % 128 / 4) in λ low. (omega arith, omega arith))
+    (let a = beside-is (c / 8) in let b = beside-is (c % 128 / 8) in λ low. (omega arith, omega arith))
+    (let a = beside-is (c / 16) in let b = beside-is (c % 128 / 16) in λ low. (omega arith, omega arith))
+    (let a = beside-is (c / 32) in let b = beside-is (c % 128 / 32) in λ low. (omega arith, omega arith))
+    (let a = beside-is (c / 64) in let b = beside-is (c % 128 / 64) in λ low. (omega arith, omega arith))
+    (λ low. absurd (omega arith))
+
+module _ (t : Kept) (c : ℕ) (siblings : List Digest32) where
+  pub path-inside : HeapLaw → (digest : List ℕ → List ℕ) (tree : PageTree) → page_at t (c / 128) ≡ Some tree → IsHeap digest tree.nodes.items 7 (leaf_of tree.chunks.items)
+      → IsPath digest (leaf_of tree.chunks.items) 7 (c % 128) siblings → (l : ℕ) → l < 7 → digest_at siblings l ≡ page_node t l (beside (c / 2 ^ l))
+  path-inside heaps digest tree is heap path l low =
+      let k = beside (c / 2 ^ l) in
+      let at = is-beside c l (omega arith) (pow_below l 7 low) in
+      let whole : 7 - l + l ≡ 7 = omega arith in
+      let below = subst (λ q. q < 2 ^ (7 - l)) at.1 (place-in k l (omega arith)) in
+      path l low
+      ∙ (sym (heaps digest tree.nodes.items (leaf_of tree.chunks.items) 7 heap l (7 - l) (beside (c % 128 / 2 ^ l)) whole below)
+      ∙ (ap (λ q. digest_at tree.nodes.items (2 ^ (7 - l) + q)) (sym at.1)
+      ∙ ap (λ o. heap_node o (place_of l k) (digest_at t.empties l)) (sym (ap (page_at t) at.0 ∙ is))))
+
+  pub path-of-none : page_at t (c / 128) ≡ None → siblings ≡ take 7 t.empties → (l : ℕ) → l < 7 → digest_at siblings l ≡ page_node t l (beside (c / 2 ^ l))
+  path-of-none is empties l low =
+      let k = beside (c / 2 ^ l) in
+      let at = is-beside c l (omega arith) (pow_below l 7 low) in
+      ap (λ ds. digest_at ds l) empties
+      ∙ (ap (λ (d : Digest32). d.0) (get_or-take 7 t.empties l (record { 0 = [] }) low)
+      ∙ ap (λ o. heap_node o (place_of l k) (digest_at t.empties l)) (sym (ap (page_at t) at.0 ∙ is)))

@@ -1,8 +1,8 @@
 //! The nodes of a tree that are kept, and how they are brought up to a memory.
-ghost use Rattle.std.specs.Prelude.{◌≡◌, ◌≢◌, ◌⊎◌, ◌+◌, ◌-◌, ◌*◌, ◌/◌, ◌≤◌, ◌<◌, ◌^◌, ◌||◌, ◌++◌, ◌∷◌, ℕ, List, [], length, IfOk, IfSome, IfNone, OnOk, OnErr, None, is_some, false, true};
+ghost use Rattle.std.specs.Prelude.{◌≡◌, ◌≢◌, ◌⊎◌, ◌+◌, ◌*◌, ◌/◌, ◌≤◌, ◌<◌, ◌^◌, ◌||◌, ◌++◌, ◌∷◌, ℕ, List, [], length, IfOk, IfSome, IfNone, OnOk, OnErr, None, is_some, false, true};
 ghost use Rattle.digest_core.specs.Text.{node_text as node_string};
 ghost use Rattle.mem_plain.specs.Contents.{IsUsed, has_page};
-ghost use Rattle.merkle_nodes.specs.Node.{digest_at};
+ghost use Rattle.merkle_nodes.specs.Node.{beside, digest_at};
 ghost use Rattle.mem_tree.specs.Page.{AreEmpty, IsMadeTree, IsPageOf, kept_or};
 ghost use Rattle.mem_tree.specs.Tree.{kept_of, page_at, page_node as node_in_page, upper_at, upper_node as node_above, AllMade, IsJoinedBut, IsRoot};
 ghost use Rattle.mem_tree.specs.Renewed.{IsRenewed};
@@ -10,10 +10,10 @@ ghost use Rattle.mem_tree.specs.Costs.{changed_chunks, has_changed, kept_above, 
 ghost use Rattle.mem_tree.specs.Levels.{IsJoinedFrom, as_number};
 
 use crate::kept::{Nodes, PageTree, Renewed};
-use crate::page::{PageOf, new_page_tree, renew, root_of, tree_root};
+use crate::page::{PAGE_CHUNKS, PageOf, new_page_tree, renew, root_of, tree_root};
 use digest_core::{Counted, node_text};
 use mem_plain::PlainMem;
-use merkle_nodes::renewals_are_few;
+use merkle_nodes::{fill_heap_path, heaps_are_trees, renewals_are_few};
 use rd_base::{Digest32, Memory, Steps};
 use std::alloc::Global;
 use std::collections::BTreeSet;
@@ -24,14 +24,6 @@ pub const PAGE_LEVEL: u8 = 7;
 
 /// How many levels are above the pages' roots.
 pub const UPPER_LEVELS: u8 = 20;
-
-/// How many nodes a page has at one of the levels below its root.
-fn page_width(level: u8) -> u32
-    requires { level < 7 }
-    ensures { result ≡ 2 ^ (7 - level) }
-{
-    2u32.pow(u32::from(PAGE_LEVEL - level))
-}
 
 /// A node, or the empty one of its level if it isn't kept.
 fn or_empty(node: Option<Digest32>, empty: Digest32) -> Digest32
@@ -62,15 +54,17 @@ fn add_if(pages: &mut Vec<u32>, page: u32, is_one: bool) -> Result<(), Memory>
 }
 
 impl Nodes {
-    /// The node at a level below the pages' roots.
-    pub(crate) fn page_node(&self, level: u8, k: u32) -> Digest32
-        requires { level < 7 }
-        ensures { result.0 ≡ node_in_page (kept_of self.now) level k }
+    /// Writes the siblings of a chunk at the levels below its page's root, the leaf's first. It looks the page up once.
+    pub(crate) fn fill_page_path(&self, chunk: u32, siblings: &mut [Digest32])
+        requires { length siblings.old ≡ 7 }
+        ensures len { length siblings.new ≡ 7 }
+        ensures nodes { (digest : List ℕ → List ℕ) → AllMade digest (kept_of self.now) → (l : ℕ) → l < 7 →
+            digest_at siblings.new l ≡ node_in_page (kept_of self.now) l (beside (chunk / 2 ^ l)) }
     {
-        let width = page_width(level);
-        match self.pages.get(&(k / width)) {
-            Some(tree) => tree.nodes[(width + k % width) as usize],
-            None => self.empties[level as usize],
+        heaps_are_trees();
+        match self.pages.get(&(chunk / PAGE_CHUNKS as u32)) {
+            Some(tree) => fill_heap_path(&tree.nodes, siblings, chunk % PAGE_CHUNKS as u32),
+            None => siblings.copy_from_slice(&self.empties[..PAGE_LEVEL as usize]),
         }
     }
 

@@ -20,7 +20,7 @@ use std::sync::ledger::Ledger;
 pub(crate) const CHUNK_BYTES: usize = 32;
 
 /// How many chunks a page has.
-const PAGE_CHUNKS: usize = 128;
+pub(crate) const PAGE_CHUNKS: usize = 128;
 
 /// How many places the heap of a page has; the first is not used.
 const HEAP_PLACES: usize = 256;
