@@ -39,8 +39,8 @@ pub fn chain_of<D: Digester>(d: D, output: &[u8]) -> Digest32
 {
     chain_grows();
     let mut chain = Digest32::ZERO;
-    'bytes: for i in 0..output.len() {
-        chain = link(d, chain, output[i]);
+    'bytes: for byte in output {
+        chain = link(d, chain, *byte);
     }
     chain
 }
