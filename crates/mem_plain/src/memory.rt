@@ -5,13 +5,10 @@ ghost use Rattle.mem_plain.specs.Kept.{AreZeros};
 ghost use Rattle.mem_plain.specs.Contents.{no_bytes, byte_at, number_at, with_number, laid, chunk_at, IsUsed, IsNextUsed, IsNextUsedBelow};
 
 use crate::directory::{Directory, TABLE_PAGES};
-use crate::page::{PAGE_BYTES, Page};
+use crate::page::{CHUNK_BYTES, PAGE_BYTES, Page};
 use rd_base::Memory;
 use std::alloc::Global;
 use std::marker::Model;
-
-/// How many bytes a chunk has.
-const CHUNK_BYTES: u32 = 32;
 
 /// How many pages there are.
 pub const PAGES: u32 = 1_048_576;
@@ -85,7 +82,7 @@ impl PlainMem {
         requires { index < 2 ^ 27 }
         ensures { result ≡ chunk_at self.now index }
     {
-        let addr = CHUNK_BYTES * index;
+        let addr = CHUNK_BYTES as u32 * index;
         match self.pages.page(addr / PAGE_BYTES) {
             Some(page) => page.chunk((addr % PAGE_BYTES) as usize),
             None => [0; 32],
