@@ -57,43 +57,33 @@ fn asks(dispute: &Dispute, side: Side, p: u32) -> bool
 pub(crate) fn all_there(claims: &[Option<Settled>]) -> bool
     ensures { result ≡ all_there claims.now }
 {
-    match claims {
-        [] => true,
-        [first, rest @ ..] => first.is_some() && all_there(rest),
-    }
+    claims.iter().all(|claim| claim.is_some())
 }
 
 /// Whether each dispute has closed, none by a collision.
 pub(crate) fn all_out(disputes: &[Dispute]) -> bool
     ensures { result ≡ all_out disputes.now }
 {
-    match disputes {
-        [] => true,
-        [first, rest @ ..] => has_put_out(first) && all_out(rest),
-    }
+    disputes.iter().all(has_put_out)
 }
 
 /// Whether a dispute has eliminated the prover.
 fn is_out_in(disputes: &[Dispute], p: u32) -> bool
     ensures { result ≡ is_out_in disputes.now p }
 {
-    match disputes {
-        [] => false,
-        [first, rest @ ..] => puts_out(first, p) || is_out_in(rest, p),
-    }
+    disputes.iter().any(|dispute| puts_out(dispute, p))
 }
 
 /// The collision of the lowest dispute that has one.
 pub(crate) fn disputes_collision(disputes: &[Dispute]) -> Option<(OpenText, OpenText)>
     ensures { result ≡ disputes_collision disputes.now }
 {
-    match disputes {
-        [] => None,
-        [first, rest @ ..] => match collided(first) {
-            Some(pair) => Some(pair),
-            None => disputes_collision(rest),
-        },
+    'disputes: for dispute in disputes {
+        if let Some(pair) = collided(dispute) {
+            return Some(pair);
+        }
     }
+    None
 }
 
 /// The collision of a claim with the first later one with which it has one.
@@ -104,16 +94,14 @@ fn collision_with<J: Judge>(
 ) -> Option<(OpenText, OpenText)>
     ensures { (k : ℕ) → result ≡ collision_with (J.ruling (J.names judge.now)) claim.now (live_from [] k claims.now) }
 {
-    match claims {
-        [] => None,
-        [Some(Settled::Given(Answer::Claim(other))), rest @ ..] => {
-            match judge.claim_collision(claim, other) {
-                Some(pair) => Some(pair),
-                None => collision_with(judge, claim, rest),
+    'claims: for settled in claims {
+        if let Some(Settled::Given(Answer::Claim(other))) = settled {
+            if let Some(pair) = judge.claim_collision(claim, other) {
+                return Some(pair);
             }
         }
-        [_, rest @ ..] => collision_with(judge, claim, rest),
     }
+    None
 }
 
 /// The collision of the least pair of claims that has one.
@@ -123,16 +111,14 @@ pub(crate) fn claims_collision<J: Judge>(
 ) -> Option<(OpenText, OpenText)>
     ensures { (k : ℕ) → result ≡ claims_collision (J.ruling (J.names judge.now)) (live_from [] k claims.now) }
 {
-    match claims {
-        [] => None,
-        [Some(Settled::Given(Answer::Claim(claim))), rest @ ..] => {
-            match collision_with(judge, claim, rest) {
-                Some(pair) => Some(pair),
-                None => claims_collision(judge, rest),
+    'claims: for (i, settled) in claims.iter().enumerate() {
+        if let Some(Settled::Given(Answer::Claim(claim))) = settled {
+            if let Some(pair) = collision_with(judge, claim, &claims[i + 1..]) {
+                return Some(pair);
             }
         }
-        [_, rest @ ..] => claims_collision(judge, rest),
     }
+    None
 }
 
 /// Puts the live provers with their roots behind those that are there, of provers the first of which has this number.
@@ -148,18 +134,17 @@ pub(crate) fn fill_live<J: Judge>(
     ensures capacity { vec_capacity live.new ≡ vec_capacity live.old }
     ensures items { live.new.items ≡ live.old.items ++ sides (J.ruling (J.names judge.now)) (live_from disputes.now p claims.now) }
 {
-    match claims {
-        [] => {}
-        [Some(Settled::Given(Answer::Claim(claim))), rest @ ..] => {
-            if !is_out_in(disputes, p) {
+    let mut prover = p;
+    'claims: for settled in claims {
+        if let Some(Settled::Given(Answer::Claim(claim))) = settled {
+            if !is_out_in(disputes, prover) {
                 live.push_reserved(Claimed {
-                    prover: p,
+                    prover,
                     root: judge.root_of(claim),
                 });
             }
-            fill_live(judge, disputes, p + 1, rest, live);
         }
-        [_, rest @ ..] => fill_live(judge, disputes, p + 1, rest, live),
+        prover += 1;
     }
 }
 
@@ -168,56 +153,48 @@ pub(crate) fn asked_from(disputes: &[Dispute], i: usize, p: u32) -> Option<(usiz
     requires { i + length disputes.now < 2 ^ 64 }
     ensures { result ≡ asked_from i p disputes.now }
 {
-    match disputes {
-        [] => None,
-        [first, rest @ ..] => {
-            if asks(first, Side::First, p) {
-                Some((i, Side::First))
-            } else if asks(first, Side::Second, p) {
-                Some((i, Side::Second))
-            } else {
-                asked_from(rest, i + 1, p)
-            }
+    'disputes: for (n, dispute) in disputes.iter().enumerate() {
+        if asks(dispute, Side::First, p) {
+            return Some((i + n, Side::First));
+        }
+        if asks(dispute, Side::Second, p) {
+            return Some((i + n, Side::Second));
         }
     }
+    None
 }
 
 /// The open question of a prover in these disputes.
 pub(crate) fn question_in(disputes: &[Dispute], p: u32) -> Option<Question>
     ensures { result ≡ question_in p disputes.now }
 {
-    match disputes {
-        [] => None,
-        [first, rest @ ..] => {
-            if asks(first, Side::First, p) {
-                first.question(Side::First)
-            } else if asks(first, Side::Second, p) {
-                first.question(Side::Second)
-            } else {
-                question_in(rest, p)
-            }
+    'disputes: for dispute in disputes {
+        if asks(dispute, Side::First, p) {
+            return dispute.question(Side::First);
+        }
+        if asks(dispute, Side::Second, p) {
+            return dispute.question(Side::Second);
         }
     }
+    None
 }
 
 /// Whether each dispute has closed.
 pub(crate) fn all_closed(disputes: &[Dispute]) -> bool
     ensures { result ≡ all_closed disputes.now }
 {
-    match disputes {
-        [] => true,
-        [first, rest @ ..] => first.closed().is_some() && all_closed(rest),
-    }
+    disputes.iter().all(|dispute| dispute.closed().is_some())
 }
 
 /// The highest stage; 0 without a dispute.
 pub(crate) fn last_stage(disputes: &[Dispute]) -> u32
     ensures { result ≡ last_stage disputes.now }
 {
-    match disputes {
-        [] => 0,
-        [first, rest @ ..] => first.stage().max(last_stage(rest)),
+    let mut last = 0;
+    'disputes: for dispute in disputes {
+        last = dispute.stage().max(last);
     }
+    last
 }
 
 /// The lowest live prover, of provers the first of which has this number.
@@ -225,15 +202,13 @@ pub(crate) fn lowest(disputes: &[Dispute], p: u32, claims: &[Option<Settled>]) -
     requires { p + length claims.now < 2 ^ 32 }
     ensures { result ≡ lowest (live_from disputes.now p claims.now) }
 {
-    match claims {
-        [] => Verdict::NoneLeft,
-        [Some(Settled::Given(Answer::Claim(_))), rest @ ..] => {
-            if is_out_in(disputes, p) {
-                lowest(disputes, p + 1, rest)
-            } else {
-                Verdict::Accept(p)
-            }
+    let mut prover = p;
+    'claims: for settled in claims {
+        let has_claim = matches!(settled, Some(Settled::Given(Answer::Claim(_))));
+        if has_claim && !is_out_in(disputes, prover) {
+            return Verdict::Accept(prover);
         }
-        [_, rest @ ..] => lowest(disputes, p + 1, rest),
+        prover += 1;
     }
+    Verdict::NoneLeft
 }
