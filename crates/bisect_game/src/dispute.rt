@@ -13,7 +13,7 @@ use rd_base::{Digest32, Memory, Qid};
 use std::alloc::Global;
 use std::marker::Model;
 
-/// The most past rounds of a dispute below a bound of 2^32, whatever the fan.
+/// The most past rounds of a dispute over at most `MAX_BOUND` steps, whatever the fan.
 const MOST_ROUNDS: usize = 32;
 
 /// The memory of one dispute. Contracts see over how many steps it is, and in how many parts a round cuts its interval.
@@ -36,7 +36,8 @@ impl Model for Room {
 }
 
 impl Room {
-    /// Room for a dispute over `bound` steps, from 1 to 2^32 - 1, of which a round cuts its interval in `fan` parts, from 2 to 16.
+    /// Room for a dispute over `bound` steps, from 1 to `MAX_BOUND`, of which a round cuts its interval in `fan` parts, from `MIN_FAN` to
+    /// `MAX_FAN`.
     pub fn new(alloc: Global, bound: u64, fan: u32) -> Result<Room, Memory>
         requires some { 0 < bound }
         requires short { bound < 2 ^ 32 }

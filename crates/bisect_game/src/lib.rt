@@ -1,6 +1,7 @@
 //! One dispute by bisection: two provers claim different roots of the same run, and rounds narrow the interval from a
 //! step on which they agree to a step on which they differ, until one step is left, of which both are asked for a proof. A round
-//! cuts the interval in as many parts as the dispute's fan, from 2 to 16, and keeps one of them.
+//! cuts the interval in as many parts as the dispute's fan, from `MIN_FAN` to `MAX_FAN` of `rd_base`, and keeps one
+//! of them.
 //!
 //! It knows no machine and no hash: a `Judge` decides what is sound, which root a claim has, where a proof leads and what a collision is,
 //! by laws that every judge proves. The layers above may rely on this: each call of a `Dispute` is the definition of a dispute

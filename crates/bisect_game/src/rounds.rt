@@ -5,12 +5,12 @@ ghost use Rattle.bisect_game.specs.Closing.{is_out, is_proved, both_proved, clos
 
 use crate::judge::Judge;
 use crate::settled::{Close, Interval, Kind, Settled};
-use rd_base::{Answer, Digest32, Memory, same_digest};
+use rd_base::{Answer, Digest32, MAX_FAN, MIN_FAN, Memory, same_digest};
 use std::alloc::Global;
 use std::slice;
 
-/// The `j`-th cut of an interval in this many parts (2 to 16, at most its steps): `lo + j * (hi - lo) / parts`, rounded down. Cut 0 is
-/// its beginning, the last its end, and of two parts cut 1 the middle.
+/// The `j`-th cut of an interval in this many parts (`MIN_FAN` to `MAX_FAN`, at most its steps): `lo + j * (hi - lo) / parts`, rounded
+/// down. Cut 0 is its beginning, the last its end, and of two parts cut 1 the middle.
 #[tactic(auto, unfolding(crate::specs::Bisection::cut))]
 pub fn cut(lo: u64, hi: u64, parts: u32, j: u32) -> u64
     requires parted { 1 < parts }
@@ -210,18 +210,15 @@ pub(crate) fn close_of<J: Judge>(
     }
 }
 
-/// The most parts of a round.
-const MOST_PARTS: u32 = 16;
-
-/// Whether an interval is cut in this many parts: 2 to 16, and no more than it has steps.
+/// Whether an interval is cut in this many parts: `MIN_FAN` to `MAX_FAN`, and no more than it has steps.
 fn can_cut(lo: u64, hi: u64, parts: u32) -> bool
     ensures { result ≡ can_cut lo hi parts }
 {
-    2 <= parts && (parts <= MOST_PARTS && u64::from(parts) <= hi.saturating_sub(lo))
+    MIN_FAN <= parts && (parts <= MAX_FAN && u64::from(parts) <= hi.saturating_sub(lo))
 }
 
-/// The cuts between the ends of an interval in this many parts, at most 15; its beginning alone if the parts aren't 2 to 16, or are more
-/// than it has steps, which no match asks.
+/// The cuts between the ends of an interval in this many parts, at most `MAX_ROOTS`; its beginning alone if the parts aren't `MIN_FAN` to
+/// `MAX_FAN`, or are more than it has steps, which no match asks.
 pub fn steps_asked(alloc: Global, lo: u64, hi: u64, parts: u32) -> Result<Vec<u64>, Memory>
     ensures value { IfOk result (λ v. v.items ≡ steps_asked lo hi parts) }
     ensures some { IfOk result (λ v. 0 < length v.items) }

@@ -1,4 +1,4 @@
-//! The numbers of a match.
+//! The numbers of a match, whose limits are those of `rd_base`.
 ghost use Rattle.std.specs.Prelude.{◌≡◌, ◌<◌, ◌≤◌, ◌^◌};
 ghost use Rattle.bisect_game.specs.Setup.{AreInRange};
 
@@ -30,8 +30,8 @@ impl Model for Setup {
 }
 
 impl Setup {
-    /// The numbers of a match of `provers` provers (1 to 65,536), over `bound` steps (1 to 4,294,967,295) from the root `start`, of which a
-    /// round cuts its interval in `fan` parts (2 to 16), with `patience` passes allowed on a question.
+    /// The numbers of a match of `provers` provers (1 to 65,536), over `bound` steps (1 to `MAX_BOUND`) from the root `start`, of which a
+    /// round cuts its interval in `fan` parts (`MIN_FAN` to `MAX_FAN`), with `patience` passes allowed on a question.
     pub fn new(provers: u32, bound: u64, fan: u32, patience: u32, start: Digest32) -> Setup
         requires some { 0 < provers }
         requires few { provers ≤ 2 ^ 16 }
@@ -59,7 +59,7 @@ impl Setup {
         self.provers
     }
 
-    /// The bound: how many steps the disputed run has, from 1 to 4,294,967,295.
+    /// The bound: how many steps the disputed run has, from 1 to `MAX_BOUND`.
     pub fn bound(self) -> u64
         ensures is { result ≡ self.bound }
         ensures steps { 0 < result }
@@ -68,7 +68,7 @@ impl Setup {
         self.bound
     }
 
-    /// In how many parts a round cuts its interval: 2 to 16.
+    /// In how many parts a round cuts its interval: `MIN_FAN` to `MAX_FAN`.
     pub fn fan(self) -> u32
         ensures is { result ≡ self.fan }
         ensures parted { 1 < result }
