@@ -11,14 +11,11 @@ use crate::numbers::{CoshalitNumbers, head_of};
 use deposits::Balances;
 use digest_core::Sha256;
 use open_match::{LogFault, after, balances, burned};
-use rd_base::Memory;
+use rd_base::{MAX_STAKE, Memory};
 use std::alloc::Global;
 use step_referee::MachineJudge;
 use tournament::Match;
 use transcript_text::Head;
-
-/// The largest stake.
-const MAX_STAKE: u64 = 1_000_000_000;
 
 /// By which settlement the stakes are paid out.
 #[derive(Clone, Copy, Debug)]
@@ -121,7 +118,7 @@ fn stakes_after(
 /// ledger (`deposits::balances`): the balances are written to `balances`, in the order of the provers, as many as there is room for, and what
 /// is in the pool to `pool`. Room for 16 is always enough.
 ///
-/// The status is that of `coshalit_match`, and 14 also if `stake` is above 1,000,000,000. Unless it is 0, 10 or 11 nothing is written.
+/// The status is that of `coshalit_match`, and 14 also if `stake` is above `MAX_STAKE`. Unless it is 0, 10 or 11 nothing is written.
 #[unsafe(no_mangle)]
 pub extern "C" fn coshalit_match_balances(
     alloc: Global,
