@@ -1,4 +1,4 @@
--- Derived, tied to the conditions of a proof by the clauses of `check_step`: the answer by tests, in the order of the conditions.
+-- Derived, tied to the conditions of a proof by the law `leading_is_decided`: the answer by tests, in the order of the conditions.
 use Rattle.std.specs.Prelude.{ℕ, ◌+◌, ◌==◌, List, [], ◌∷◌, Bool, true, false, Option, Some, None, bytes_eq, if◌then◌else◌}
 use Rattle.rd_base.specs.declared.digest.Digest32.{Digest32}
 use Rattle.rv_step.specs.Fetching.{fetch_address}
