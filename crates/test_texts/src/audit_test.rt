@@ -5,7 +5,7 @@ use crate::audit_test::Piece::{From, Lines, New, Of};
 use crate::playing::Who::{Double, Forger, Honest, Late, LaterLiar, Leaves, Liar, Silent};
 use crate::playing::{HALVES, Terms, Who, full_of};
 use audit::{Audit, Cause, a_read_text_may_be_audited, audit};
-use rd_base::Memory;
+use rd_base::{Memory, OpenText};
 use std::alloc::Global;
 use std::test::Fail;
 use std::thread::Threads;
@@ -14,18 +14,26 @@ use toy_game::ToyJudge;
 use transcript_text::{TextFault, read_full};
 
 /// The finding of the audit of a text.
-#[derive(Clone, Copy, PartialEq, Eq)]
+#[derive(Clone, Copy, Debug, PartialEq, Eq)]
 enum Told {
     /// Confirmed: the claim of the prover with this number is accepted.
     Accepts(u32),
     /// Confirmed: nobody is left.
     NobodyLeft,
-    /// Confirmed: two strings collide.
-    Collides,
+    /// Confirmed: these strings of one byte collide. `None` is another string.
+    Collides(Option<u8>, Option<u8>),
     /// Refused at this line.
     Refused(u64, Cause),
     /// It has a fault of reading.
     Unread,
+}
+
+/// The byte of a string that has one.
+fn only_byte(string: &OpenText) -> Option<u8> {
+    match string.as_slice() {
+        [byte] => Some(*byte),
+        _ => None,
+    }
 }
 
 /// A finding in short.
@@ -33,7 +41,7 @@ fn in_short(found: Audit) -> Told {
     match found {
         Audit::Confirmed(Verdict::Accept(p)) => Told::Accepts(p),
         Audit::Confirmed(Verdict::NoneLeft) => Told::NobodyLeft,
-        Audit::Confirmed(Verdict::Collision(..)) => Told::Collides,
+        Audit::Confirmed(Verdict::Collision(x, y)) => Told::Collides(only_byte(&x), only_byte(&y)),
         Audit::Refused { line, cause } => Told::Refused(line, cause),
     }
 }
@@ -50,60 +58,150 @@ fn audit_of(alloc: Global, bytes: &[u8]) -> Result<Told, Memory> {
     }
 }
 
-/// The terms of a match over 8 steps.
-fn terms_of(players: &'static [Who], fan: u32, patience: u32) -> Terms {
-    Terms {
+/// The strings that collide in the toy game.
+const COLLIDES: Told = Told::Collides(Some(1), Some(2));
+
+/// Who plays a match over 8 steps, and the finding of the audit of its full text.
+#[derive(Clone, Copy, Debug)]
+struct Played {
+    players: &'static [Who],
+    fan: u32,
+    patience: u32,
+    told: Told,
+}
+
+/// The last four are of sixteen silent provers, and of rounds in more parts.
+const MATCHES: [Played; 14] = [
+    Played {
+        players: &[Honest],
+        fan: 2,
+        patience: 0,
+        told: Told::Accepts(1),
+    },
+    Played {
+        players: &[Silent],
+        fan: 2,
+        patience: 0,
+        told: Told::NobodyLeft,
+    },
+    Played {
+        players: &[Honest, Honest],
+        fan: 2,
+        patience: 0,
+        told: Told::Accepts(1),
+    },
+    Played {
+        players: &[Liar, Honest],
+        fan: 2,
+        patience: 0,
+        told: Told::Accepts(2),
+    },
+    Played {
+        players: &[Leaves, Honest],
+        fan: 2,
+        patience: 3,
+        told: Told::Accepts(2),
+    },
+    Played {
+        players: &[Silent, Silent],
+        fan: 2,
+        patience: 1,
+        told: Told::NobodyLeft,
+    },
+    Played {
+        players: &[Honest, Forger],
+        fan: 2,
+        patience: 0,
+        told: COLLIDES,
+    },
+    Played {
+        players: &[Double, Honest],
+        fan: 2,
+        patience: 0,
+        told: COLLIDES,
+    },
+    Played {
+        players: &[Liar, Late, Silent],
+        fan: 2,
+        patience: 2,
+        told: Told::Accepts(2),
+    },
+    Played {
+        players: &[Liar, Late, Silent],
+        fan: 2,
+        patience: 1,
+        told: Told::Accepts(1),
+    },
+    Played {
+        players: &[Silent; 16],
+        fan: 2,
+        patience: 0,
+        told: Told::NobodyLeft,
+    },
+    Played {
+        players: &[Honest, Liar],
+        fan: 3,
+        patience: 0,
+        told: Told::Accepts(1),
+    },
+    Played {
+        players: &[Honest, Liar],
+        fan: 4,
+        patience: 0,
+        told: Told::Accepts(1),
+    },
+    Played {
+        players: &[Honest, Liar],
+        fan: 16,
+        patience: 0,
+        told: Told::Accepts(1),
+    },
+];
+
+/// The matches as a value, of which no caller sees the rows: they would stand in each of its goals.
+fn matches() -> &'static [Played] {
+    &MATCHES
+}
+
+/// The full text of such a match.
+fn text_of<R: Threads + Sync>(rt: &R, alloc: Global, played: &Played) -> Result<Vec<u8>, Memory>
+    requires { IsSync R.row }
+{
+    let Played {
+        players,
+        fan,
+        patience,
+        ..
+    } = *played;
+    let terms = Terms {
         players,
         fan,
         patience,
         ..HALVES
-    }
+    };
+    full_of(rt, alloc, terms)
 }
 
-/// The players of a match, its fan and its patience, and the finding of the audit of its full text. The last four are of sixteen silent
-/// provers, and of rounds in more parts.
-const MATCHES: [(&[Who], u32, u32, Told); 14] = [
-    (&[Honest], 2, 0, Told::Accepts(1)),
-    (&[Silent], 2, 0, Told::NobodyLeft),
-    (&[Honest, Honest], 2, 0, Told::Accepts(1)),
-    (&[Liar, Honest], 2, 0, Told::Accepts(2)),
-    (&[Leaves, Honest], 2, 3, Told::Accepts(2)),
-    (&[Silent, Silent], 2, 1, Told::NobodyLeft),
-    (&[Honest, Forger], 2, 0, Told::Collides),
-    (&[Double, Honest], 2, 0, Told::Collides),
-    (&[Liar, Late, Silent], 2, 2, Told::Accepts(2)),
-    (&[Liar, Late, Silent], 2, 1, Told::Accepts(1)),
-    (&[Silent; 16], 2, 0, Told::NobodyLeft),
-    (&[Honest, Liar], 3, 0, Told::Accepts(1)),
-    (&[Honest, Liar], 4, 0, Told::Accepts(1)),
-    (&[Honest, Liar], 16, 0, Told::Accepts(1)),
-];
-
-/// The finding of the audit of the full text of a match.
-fn found_of<R: Threads + Sync>(rt: &R, alloc: Global, terms: Terms) -> Result<Told, Memory>
+/// The finding of the audit of the full text of such a match.
+fn found_of<R: Threads + Sync>(rt: &R, alloc: Global, played: &Played) -> Result<Told, Memory>
     requires { IsSync R.row }
 {
-    let text = full_of(rt, alloc, terms)?;
+    let text = text_of(rt, alloc, played)?;
     audit_of(alloc, text.as_slice())
 }
 
-/// The matches as a value, of which no caller sees the rows: they would stand in each of its goals.
-fn matches() -> [(&'static [Who], u32, u32, Told); 14] {
-    MATCHES
-}
-
-/// The first match whose full text isn't confirmed so.
+/// The first match of whose full text the audit finds something else, with what it finds.
 fn first_other_match<R: Threads + Sync>(
     rt: &R,
     alloc: Global,
-    matches: &[(&'static [Who], u32, u32, Told)],
-) -> Result<Option<usize>, Memory>
+    matches: &[Played],
+) -> Result<Option<Played>, Memory>
     requires { IsSync R.row }
 {
-    for (place, (players, fan, patience, told)) in matches.iter().enumerate() {
-        let terms = terms_of(*players, *fan, *patience);
-        if found_of(rt, alloc, terms)? != *told {
-            return Ok(Some(place));
+    for played in matches {
+        let told = found_of(rt, alloc, played)?;
+        if told != played.told {
+            return Ok(Some(Played { told, ..*played }));
         }
     }
     Ok(None)
@@ -111,19 +209,67 @@ fn first_other_match<R: Threads + Sync>(
 
 #[test]
 fn the_full_text_of_each_match_is_confirmed(rt: HostRuntime) -> Result<(), Fail> {
-    assert_eq!(rt; first_other_match(&rt, rt.alloc(), &matches())?, None);
+    let other = first_other_match(&rt, rt.alloc(), matches())?;
+    assert!(rt; other.is_none(), "{other:?}");
     Ok(())
 }
 
-/// The players and the fan of the matches whose full texts have lines changed, and the places of these texts.
-const TEXTS: [(&[Who], u32); 7] = [
-    (&[Honest, Liar], 2),
-    (&[Honest, Liar, LaterLiar], 2),
-    (&[Honest, Honest], 2),
-    (&[Honest, LaterLiar], 2),
-    (&[Honest, Liar], 3),
-    (&[Honest, Liar], 4),
-    (&[Honest, Liar], 16),
+/// The matches whose full texts have lines changed, each at the place below.
+const TEXTS: [Played; 9] = [
+    Played {
+        players: &[Honest, Liar],
+        fan: 2,
+        patience: 0,
+        told: Told::Accepts(1),
+    },
+    Played {
+        players: &[Honest, Liar, LaterLiar],
+        fan: 2,
+        patience: 0,
+        told: Told::Accepts(1),
+    },
+    Played {
+        players: &[Honest, Honest],
+        fan: 2,
+        patience: 0,
+        told: Told::Accepts(1),
+    },
+    Played {
+        players: &[Honest, LaterLiar],
+        fan: 2,
+        patience: 0,
+        told: Told::Accepts(1),
+    },
+    Played {
+        players: &[Honest, Liar],
+        fan: 3,
+        patience: 0,
+        told: Told::Accepts(1),
+    },
+    Played {
+        players: &[Honest, Liar],
+        fan: 4,
+        patience: 0,
+        told: Told::Accepts(1),
+    },
+    Played {
+        players: &[Honest, Liar],
+        fan: 16,
+        patience: 0,
+        told: Told::Accepts(1),
+    },
+    Played {
+        players: &[Double, Honest],
+        fan: 2,
+        patience: 0,
+        told: COLLIDES,
+    },
+    Played {
+        players: &[Honest, Forger],
+        fan: 2,
+        patience: 0,
+        told: COLLIDES,
+    },
 ];
 
 const BISECTED: usize = 0;
@@ -140,8 +286,12 @@ const QUARTERS: usize = 5;
 
 const SIXTEENTHS: usize = 6;
 
+const TWO_CLAIMS: usize = 7;
+
+const TWO_PROOFS: usize = 8;
+
 /// A piece of a text. Lines and columns count from 1 and from 0.
-#[derive(Clone, Copy)]
+#[derive(Clone, Copy, Debug)]
 enum Piece {
     /// The lines from the first to the second of these.
     Lines(usize, usize),
@@ -208,8 +358,10 @@ fn joined(
 }
 
 /// The pieces of a text, and the finding of the audit of these.
-#[derive(Clone, Copy)]
+#[derive(Clone, Copy, Debug)]
 struct Row {
+    /// How the text is changed.
+    row: &'static str,
     pieces: &'static [Piece],
     told: Told,
 }
@@ -219,26 +371,33 @@ const DIGITS: usize = 18;
 
 const OTHER_VERDICT: Told = Told::Refused(12, Cause::OtherVerdict);
 
+const NO_SUCH_STRINGS: Told = Told::Refused(4, Cause::OtherVerdict);
+
 /// Another verdict in place of that of prover 1. The text has twelve lines: the head, two claims, three rounds of two roots, two proofs of
 /// step 1, and the verdict.
 const VERDICTS: [Row; 5] = [
     Row {
+        row: "the text itself",
         pieces: &[Lines(1, 12)],
         told: Told::Accepts(1),
     },
     Row {
+        row: "nobody is left",
         pieces: &[Lines(1, 11), New(b"none left\n")],
         told: OTHER_VERDICT,
     },
     Row {
+        row: "another status and output",
         pieces: &[Lines(1, 11), New(b"accept running output 00\n")],
         told: OTHER_VERDICT,
     },
     Row {
+        row: "another output",
         pieces: &[Lines(1, 11), New(b"accept exited 0 output\n")],
         told: OTHER_VERDICT,
     },
     Row {
+        row: "a collision",
         pieces: &[Lines(1, 11), New(b"collision 01 02\n")],
         told: OTHER_VERDICT,
     },
@@ -248,42 +407,52 @@ const VERDICTS: [Row; 5] = [
 /// next legal entry.
 const LINES: [Row; 10] = [
     Row {
+        row: "a move left out",
         pieces: &[Lines(1, 3), Lines(5, 12)],
         told: Told::Refused(4, Cause::NotAsked),
     },
     Row {
+        row: "the last move left out",
         pieces: &[Lines(1, 10), Lines(12, 12)],
         told: Told::Refused(11, Cause::MovesMissing),
     },
     Row {
+        row: "the last move twice",
         pieces: &[Lines(1, 11), Lines(11, 12)],
         told: Told::Refused(12, Cause::MovesAfterEnd),
     },
     Row {
+        row: "an earlier move twice",
         pieces: &[Lines(1, 4), Lines(4, 12)],
         told: Told::Refused(5, Cause::NotAsked),
     },
     Row {
+        row: "claims exchanged",
         pieces: &[Lines(1, 1), Lines(3, 3), Lines(2, 2), Lines(4, 12)],
         told: Told::Refused(2, Cause::NotAsked),
     },
     Row {
+        row: "moves of the dispute left out",
         pieces: &[Lines(1, 3), Lines(12, 12)],
         told: Told::Refused(4, Cause::MovesMissing),
     },
     Row {
+        row: "a move of another dispute",
         pieces: &[Lines(1, 3), New(b"move 2 1 p1 spent\n"), Lines(5, 12)],
         told: Told::Refused(4, Cause::NotAsked),
     },
     Row {
+        row: "a move of another round",
         pieces: &[Lines(1, 3), New(b"move 1 2 p1 spent\n"), Lines(5, 12)],
         told: Told::Refused(4, Cause::NotAsked),
     },
     Row {
+        row: "a head of one line with a move",
         pieces: &[New(b"refereed provers 2 "), Lines(2, 12)],
         told: Told::Unread,
     },
     Row {
+        row: "the verdict left out",
         pieces: &[Lines(1, 11)],
         told: Told::Unread,
     },
@@ -293,6 +462,7 @@ const LINES: [Row; 10] = [
 /// and called faulty.
 const REPLIES: [Row; 3] = [
     Row {
+        row: "a given claim called faulty",
         pieces: &[
             Lines(1, 2),
             New(b"move 0 0 p2 faulty "),
@@ -302,6 +472,7 @@ const REPLIES: [Row; 3] = [
         told: Told::Refused(3, Cause::OtherReply),
     },
     Row {
+        row: "a claim as a root called given",
         pieces: &[
             Lines(1, 3),
             New(b"move 1 1 p1 given "),
@@ -311,6 +482,7 @@ const REPLIES: [Row; 3] = [
         told: Told::Refused(4, Cause::OtherReply),
     },
     Row {
+        row: "a claim as a root called faulty",
         pieces: &[
             Lines(1, 3),
             New(b"move 1 1 p1 faulty "),
@@ -326,6 +498,7 @@ const REPLIES: [Row; 3] = [
 /// liar's proof is the last answer: a true one of it proves nothing for its own root.
 const PROOFS: [Row; 3] = [
     Row {
+        row: "a proof of another root",
         pieces: &[
             Lines(1, 9),
             New(b"move 1 4 p1 given 0302"),
@@ -335,6 +508,7 @@ const PROOFS: [Row; 3] = [
         told: Told::Refused(12, Cause::OtherVerdict),
     },
     Row {
+        row: "the same before nobody is left",
         pieces: &[
             Lines(1, 9),
             New(b"move 1 4 p1 given 0302"),
@@ -345,6 +519,7 @@ const PROOFS: [Row; 3] = [
         told: Told::NobodyLeft,
     },
     Row {
+        row: "a true proof of another root than its own",
         pieces: &[
             Lines(1, 10),
             New(b"move 1 4 p2 given "),
@@ -358,6 +533,7 @@ const PROOFS: [Row; 3] = [
 /// No text can show that a prover passed too often: `spent` is taken as stated, and settles its question.
 const SPENT: [Row; 3] = [
     Row {
+        row: "spent in a round",
         pieces: &[
             Lines(1, 3),
             New(b"move 1 1 p1 spent\n"),
@@ -367,10 +543,12 @@ const SPENT: [Row; 3] = [
         told: Told::Accepts(2),
     },
     Row {
+        row: "spent before the other moves",
         pieces: &[Lines(1, 3), New(b"move 1 1 p1 spent\n"), Lines(5, 12)],
         told: Told::Refused(6, Cause::MovesAfterEnd),
     },
     Row {
+        row: "spent at both claims",
         pieces: &[
             Lines(1, 1),
             New(b"move 0 0 p1 spent\nmove 0 0 p2 spent\nnone left\n"),
@@ -382,42 +560,52 @@ const SPENT: [Row; 3] = [
 /// A match that is cut after any of its lines but the last answer has its verdict too early.
 const CUT: [Row; 10] = [
     Row {
+        row: "cut after line 1",
         pieces: &[Lines(1, 1), Lines(12, 12)],
         told: Told::Refused(2, Cause::MovesMissing),
     },
     Row {
+        row: "cut after line 2",
         pieces: &[Lines(1, 2), Lines(12, 12)],
         told: Told::Refused(3, Cause::MovesMissing),
     },
     Row {
+        row: "cut after line 3",
         pieces: &[Lines(1, 3), Lines(12, 12)],
         told: Told::Refused(4, Cause::MovesMissing),
     },
     Row {
+        row: "cut after line 4",
         pieces: &[Lines(1, 4), Lines(12, 12)],
         told: Told::Refused(5, Cause::MovesMissing),
     },
     Row {
+        row: "cut after line 5",
         pieces: &[Lines(1, 5), Lines(12, 12)],
         told: Told::Refused(6, Cause::MovesMissing),
     },
     Row {
+        row: "cut after line 6",
         pieces: &[Lines(1, 6), Lines(12, 12)],
         told: Told::Refused(7, Cause::MovesMissing),
     },
     Row {
+        row: "cut after line 7",
         pieces: &[Lines(1, 7), Lines(12, 12)],
         told: Told::Refused(8, Cause::MovesMissing),
     },
     Row {
+        row: "cut after line 8",
         pieces: &[Lines(1, 8), Lines(12, 12)],
         told: Told::Refused(9, Cause::MovesMissing),
     },
     Row {
+        row: "cut after line 9",
         pieces: &[Lines(1, 9), Lines(12, 12)],
         told: Told::Refused(10, Cause::MovesMissing),
     },
     Row {
+        row: "cut after line 10",
         pieces: &[Lines(1, 10), Lines(12, 12)],
         told: Told::Refused(11, Cause::MovesMissing),
     },
@@ -427,27 +615,33 @@ const CUT: [Row; 10] = [
 /// lines 13 to 20, and the verdict in line 21.
 const DISPUTES: [Row; 6] = [
     Row {
+        row: "the text itself",
         pieces: &[Lines(1, 21)],
         told: Told::Accepts(1),
     },
     Row {
+        row: "disputes exchanged",
         pieces: &[Lines(1, 4), Lines(13, 20), Lines(5, 12), Lines(21, 21)],
         told: Told::Refused(5, Cause::NotAsked),
     },
     Row {
+        row: "the first dispute twice",
         pieces: &[Lines(1, 12), Lines(5, 12), Lines(21, 21)],
         told: Told::Refused(13, Cause::NotAsked),
     },
     Row {
+        row: "the second dispute left out",
         pieces: &[Lines(1, 12), Lines(21, 21)],
         told: Told::Refused(13, Cause::MovesMissing),
     },
     Row {
+        row: "a third dispute",
         pieces: &[Lines(1, 20), New(b"move 3 1 p1 spent\n"), Lines(21, 21)],
         told: Told::Refused(21, Cause::MovesAfterEnd),
     },
     // prover 3 has no turn in the first dispute
     Row {
+        row: "a prover of the second dispute in the first",
         pieces: &[Lines(1, 4), New(b"move 1 1 p3 spent\n"), Lines(6, 21)],
         told: Told::Refused(5, Cause::NotAsked),
     },
@@ -457,10 +651,12 @@ const DISPUTES: [Row; 6] = [
 /// numbers are asked, the text is that of a third match.
 const SPLICED: [Row; 2] = [
     Row {
+        row: "rounds after equal claims",
         pieces: &[Of(AGREED, 1, 3), Of(LATER, 4, 12)],
         told: Told::Refused(4, Cause::MovesAfterEnd),
     },
     Row {
+        row: "rounds of another liar",
         pieces: &[Of(BISECTED, 1, 3), Of(LATER, 4, 12)],
         told: Told::Accepts(1),
     },
@@ -470,10 +666,12 @@ const SPLICED: [Row; 2] = [
 /// claims, two answers a round, two proofs and the verdict.
 const TEN_LINES: [Row; 2] = [
     Row {
+        row: "the verdict left out",
         pieces: &[Lines(1, 9)],
         told: Told::Unread,
     },
     Row {
+        row: "the text itself",
         pieces: &[Lines(1, 10)],
         told: Told::Accepts(1),
     },
@@ -482,10 +680,12 @@ const TEN_LINES: [Row; 2] = [
 /// One round of 16, which cuts 8 steps in 8 parts: the text has eight lines.
 const EIGHT_LINES: [Row; 2] = [
     Row {
+        row: "the verdict left out",
         pieces: &[Lines(1, 7)],
         told: Told::Unread,
     },
     Row {
+        row: "the text itself",
         pieces: &[Lines(1, 8)],
         told: Told::Accepts(1),
     },
@@ -494,81 +694,195 @@ const EIGHT_LINES: [Row; 2] = [
 /// Two roots aren't taken as given if three are asked, and a list of roots that is left out is missed.
 const LISTS: [Row; 2] = [
     Row {
+        row: "two roots of three",
         pieces: &[Lines(1, 3), Of(THIRDS, 4, 4), Lines(5, 10)],
         told: Told::Refused(4, Cause::OtherReply),
     },
     Row {
+        row: "roots left out",
         pieces: &[Lines(1, 4), Lines(6, 10)],
         told: Told::Refused(5, Cause::NotAsked),
     },
 ];
 
-/// The tables, each with the place of the text of its pieces.
-const TABLES: [(usize, &[Row]); 12] = [
-    (BISECTED, &VERDICTS),
-    (BISECTED, &LINES),
-    (BISECTED, &REPLIES),
-    (BISECTED, &PROOFS),
-    (BISECTED, &SPENT),
-    (BISECTED, &CUT),
-    (DISPUTED, &DISPUTES),
-    (LATER, &SPLICED),
-    (THIRDS, &TEN_LINES),
-    (QUARTERS, &TEN_LINES),
-    (SIXTEENTHS, &EIGHT_LINES),
-    (QUARTERS, &LISTS),
+/// Both strings of a collision are compared, in their order. The text of two claims of one root has four lines.
+const STRINGS_OF_CLAIMS: [Row; 7] = [
+    Row {
+        row: "the text itself",
+        pieces: &[Lines(1, 4)],
+        told: COLLIDES,
+    },
+    Row {
+        row: "the same strings",
+        pieces: &[Lines(1, 3), New(b"collision 01 02\n")],
+        told: COLLIDES,
+    },
+    Row {
+        row: "strings exchanged",
+        pieces: &[Lines(1, 3), New(b"collision 02 01\n")],
+        told: NO_SUCH_STRINGS,
+    },
+    Row {
+        row: "another first string",
+        pieces: &[Lines(1, 3), New(b"collision 03 02\n")],
+        told: NO_SUCH_STRINGS,
+    },
+    Row {
+        row: "another second string",
+        pieces: &[Lines(1, 3), New(b"collision 01 03\n")],
+        told: NO_SUCH_STRINGS,
+    },
+    Row {
+        row: "a longer second string",
+        pieces: &[Lines(1, 3), New(b"collision 01 0200\n")],
+        told: NO_SUCH_STRINGS,
+    },
+    Row {
+        row: "nobody is left",
+        pieces: &[Lines(1, 3), New(b"none left\n")],
+        told: NO_SUCH_STRINGS,
+    },
 ];
 
-/// Whether the audit finds this of the pieces of a text.
-fn is_told(
+/// That of two proofs which lead from one root to two has twelve.
+const STRINGS_OF_PROOFS: [Row; 4] = [
+    Row {
+        row: "the text itself",
+        pieces: &[Lines(1, 12)],
+        told: COLLIDES,
+    },
+    Row {
+        row: "strings exchanged",
+        pieces: &[Lines(1, 11), New(b"collision 02 01\n")],
+        told: OTHER_VERDICT,
+    },
+    Row {
+        row: "a longer first string",
+        pieces: &[Lines(1, 11), New(b"collision 0001 02\n")],
+        told: OTHER_VERDICT,
+    },
+    Row {
+        row: "the claim of prover 1",
+        pieces: &[Lines(1, 11), New(b"accept running output\n")],
+        told: OTHER_VERDICT,
+    },
+];
+
+/// Rows of the text at a place.
+#[derive(Clone, Copy)]
+struct Table {
+    text: usize,
+    rows: &'static [Row],
+}
+
+const TABLES: [Table; 14] = [
+    Table {
+        text: BISECTED,
+        rows: &VERDICTS,
+    },
+    Table {
+        text: BISECTED,
+        rows: &LINES,
+    },
+    Table {
+        text: BISECTED,
+        rows: &REPLIES,
+    },
+    Table {
+        text: BISECTED,
+        rows: &PROOFS,
+    },
+    Table {
+        text: BISECTED,
+        rows: &SPENT,
+    },
+    Table {
+        text: BISECTED,
+        rows: &CUT,
+    },
+    Table {
+        text: DISPUTED,
+        rows: &DISPUTES,
+    },
+    Table {
+        text: LATER,
+        rows: &SPLICED,
+    },
+    Table {
+        text: THIRDS,
+        rows: &TEN_LINES,
+    },
+    Table {
+        text: QUARTERS,
+        rows: &TEN_LINES,
+    },
+    Table {
+        text: SIXTEENTHS,
+        rows: &EIGHT_LINES,
+    },
+    Table {
+        text: QUARTERS,
+        rows: &LISTS,
+    },
+    Table {
+        text: TWO_CLAIMS,
+        rows: &STRINGS_OF_CLAIMS,
+    },
+    Table {
+        text: TWO_PROOFS,
+        rows: &STRINGS_OF_PROOFS,
+    },
+];
+
+/// The tables as a value, of which no caller sees the rows.
+fn tables() -> [Table; 14] {
+    TABLES
+}
+
+/// The finding of the audit of pieces of a text.
+fn found_of_pieces(
     alloc: Global,
     texts: &[Vec<u8>],
     own: usize,
     pieces: &[Piece],
-    told: Told,
-) -> Result<bool, Memory> {
+) -> Result<Told, Memory> {
     let changed = joined(alloc, texts, own, pieces)?;
-    let found = audit_of(alloc, changed.as_slice());
-    drop(changed);
-    Ok(found? == told)
+    audit_of(alloc, changed.as_slice())
 }
 
-/// The first row of pieces of a text of which the audit finds something else.
+/// The first row of a table of which the audit finds something else, with what it finds.
 fn first_other(
     alloc: Global,
     texts: &[Vec<u8>],
     own: usize,
     rows: &[Row],
-) -> Result<Option<usize>, Memory> {
-    for (place, Row { pieces, told }) in rows.iter().enumerate() {
-        if !is_told(alloc, texts, own, *pieces, *told)? {
-            return Ok(Some(place));
+) -> Result<Option<Row>, Memory> {
+    for row in rows {
+        let told = found_of_pieces(alloc, texts, own, row.pieces)?;
+        if told != row.told {
+            return Ok(Some(Row { told, ..*row }));
         }
     }
     Ok(None)
 }
 
-/// The tables as a value, of which no caller sees the rows.
-fn tables() -> &'static [(usize, &'static [Row])] {
-    &TABLES
-}
-
-/// The first table with such a row, and the row.
-fn first_table(
+/// The first such row of these tables.
+fn first_of_tables(
     alloc: Global,
     texts: &[Vec<u8>],
-    tables: &[(usize, &[Row])],
-) -> Result<Option<(usize, usize)>, Memory> {
-    for (table, (own, rows)) in tables.iter().enumerate() {
-        if let Some(place) = first_other(alloc, texts, *own, *rows)? {
-            return Ok(Some((table, place)));
+    tables: &[Table],
+) -> Result<Option<Row>, Memory> {
+    for Table { text, rows } in tables {
+        let other = first_other(alloc, texts, *text, *rows)?;
+        if other.is_some() {
+            return Ok(other);
         }
     }
     Ok(None)
 }
 
 /// The matches of `TEXTS` as a value, of which no caller sees the rows.
-fn changed_matches() -> &'static [(&'static [Who], u32)] {
+fn changed_matches() -> &'static [Played] {
     &TEXTS
 }
 
@@ -576,14 +890,13 @@ fn changed_matches() -> &'static [(&'static [Who], u32)] {
 fn texts_of<R: Threads + Sync>(
     rt: &R,
     alloc: Global,
-    matches: &[(&'static [Who], u32)],
+    matches: &[Played],
 ) -> Result<Vec<Vec<u8>>, Memory>
     requires { IsSync R.row }
 {
     let mut texts = Vec::new(alloc);
-    for (players, fan) in matches {
-        let terms = terms_of(*players, *fan, 0);
-        texts.push(full_of(rt, alloc, terms)?)?;
+    for played in matches {
+        texts.push(text_of(rt, alloc, played)?)?;
     }
     Ok(texts)
 }
@@ -591,8 +904,9 @@ fn texts_of<R: Threads + Sync>(
 #[test]
 fn a_changed_text_is_refused_where_it_is_wrong(rt: HostRuntime) -> Result<(), Fail> {
     let texts = texts_of(&rt, rt.alloc(), changed_matches())?;
-    let other = first_table(rt.alloc(), texts.as_slice(), tables());
+    let other = first_of_tables(rt.alloc(), texts.as_slice(), &tables());
     drop(texts);
-    assert_eq!(rt; other?, None);
+    let other = other?;
+    assert!(rt; other.is_none(), "{other:?}");
     Ok(())
 }

@@ -20,7 +20,7 @@ pub(crate) const CLAIM: Question = Question {
 };
 
 /// A player of these matches. The true run is 0 to 6 and stays there; a liar's is another one from step 2 on.
-#[derive(Clone, Copy)]
+#[derive(Clone, Copy, Debug)]
 pub(crate) enum Who {
     Honest,
     Liar,
