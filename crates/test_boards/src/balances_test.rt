@@ -16,6 +16,7 @@ use toy_game::{Cast, HONEST, LIAR, Player, SILENT, ToyJudge};
 
 /// A match in which each player stakes 10. Its last two players may be missing.
 struct Row {
+    row: &'static str,
     players: [Player; 3],
     count: u32,
     /// What each has at its end if the other side wins the stake of a prover that is out, and what is in the pool.
@@ -27,8 +28,8 @@ struct Row {
 }
 
 const MATCHES: [Row; 7] = [
-    // one alone
     Row {
+        row: "one alone",
         players: [HONEST, SILENT, SILENT],
         count: 1,
         won: &[10],
@@ -36,8 +37,8 @@ const MATCHES: [Row; 7] = [
         kept: &[10],
         burned: 0,
     },
-    // two liars and an honest one
     Row {
+        row: "two liars and an honest one",
         players: [LIAR, LIAR, HONEST],
         count: 3,
         won: &[0, 0, 30],
@@ -45,8 +46,8 @@ const MATCHES: [Row; 7] = [
         kept: &[0, 0, 10],
         burned: 20,
     },
-    // one never claims
     Row {
+        row: "one never claims",
         players: [SILENT, LIAR, HONEST],
         count: 3,
         won: &[0, 0, 20],
@@ -54,8 +55,8 @@ const MATCHES: [Row; 7] = [
         kept: &[0, 0, 10],
         burned: 20,
     },
-    // both fall silent
     Row {
+        row: "both fall silent",
         players: [FALLS_SILENT, LIAR_FALLS_SILENT, SILENT],
         count: 2,
         won: &[0, 0],
@@ -63,8 +64,8 @@ const MATCHES: [Row; 7] = [
         kept: &[0, 0],
         burned: 20,
     },
-    // the liar keeps what it won in stage 1
     Row {
+        row: "the liar keeps what it won in stage 1",
         players: [LIAR, FALLS_SILENT, HONEST],
         count: 3,
         won: &[10, 0, 20],
@@ -72,8 +73,8 @@ const MATCHES: [Row; 7] = [
         kept: &[0, 0, 10],
         burned: 20,
     },
-    // liars with one claim
     Row {
+        row: "liars with one claim",
         players: [LIAR, LIAR, SILENT],
         count: 2,
         won: &[10, 10],
@@ -81,8 +82,8 @@ const MATCHES: [Row; 7] = [
         kept: &[10, 10],
         burned: 0,
     },
-    // both prove, and collide
     Row {
+        row: "both prove, and collide",
         players: [HONEST, FORGER, SILENT],
         count: 2,
         won: &[10, 10],
@@ -93,7 +94,7 @@ const MATCHES: [Row; 7] = [
 ];
 
 /// A match by both settlements.
-#[derive(Drop)]
+#[derive(Debug, Drop)]
 struct Settlements {
     won: Balances,
     kept: Balances,
@@ -136,33 +137,27 @@ fn paid_to<R: Threads + Wait + Sync>(
     paid(alloc, book.game())
 }
 
+/// Whether these are the settlements of a row.
+fn is_paid(paid: &Option<Settlements>, row: &Row) -> bool {
+    match paid {
+        Some(paid) => {
+            paid.won.of.as_slice() == row.won
+                && paid.won.pool == row.pool
+                && paid.kept.of.as_slice() == row.kept
+                && paid.kept.pool == row.burned
+        }
+        None => false,
+    }
+}
+
 /// At the end of a match a prover that is out has lost its stake: by `balances` to the one that eliminated it, or to the pool, and by
 /// `burned` to nobody.
 #[test]
 fn each_match_pays_its_provers(rt: HostRuntime) -> Result<(), Fail> {
-    for (
-        place,
-        Row {
-            players,
-            count,
-            won,
-            pool,
-            kept,
-            burned,
-        },
-    ) in MATCHES.iter().enumerate() {
-        assert!(rt; *count >= 1 && *count <= 3);
-        let paid = paid_to(&rt, rt.alloc(), cast_of(*players, *count))?;
-        let is_right = match &paid {
-            Some(paid) => {
-                paid.won.of.as_slice() == *won
-                    && paid.won.pool == *pool
-                    && paid.kept.of.as_slice() == *kept
-                    && paid.kept.pool == *burned
-            }
-            None => false,
-        };
-        assert!(rt; is_right, "row {place}");
+    for row in &MATCHES {
+        assert!(rt; row.count >= 1 && row.count <= 3);
+        let paid = paid_to(&rt, rt.alloc(), cast_of(row.players, row.count))?;
+        assert!(rt; is_paid(&paid, row), "{}: {paid:?}", row.row);
     }
     Ok(())
 }

@@ -21,7 +21,7 @@ type ToyBoard = Board<ToyJudge, Cast>;
 type ToySeat = Seat<ToyJudge, Cast>;
 
 /// How a prover posts.
-#[derive(Clone, Copy, PartialEq, Eq)]
+#[derive(Clone, Copy)]
 enum How {
     /// It is asked before.
     Asked,
@@ -31,11 +31,24 @@ enum How {
     Unasked,
 }
 
-/// A prover, from 1, what it says to the question for its claim after this many passes, and how it posts that.
-type Act = (u32, u32, How);
+/// A prover posts what it says to the question for its claim after this many passes.
+#[derive(Clone, Copy)]
+struct Act {
+    prover: u32,
+    passes: u32,
+    how: How,
+}
 
-/// What a prover is asked, if it is, how its post is answered then, and the place of its entry.
-type Turn = (Option<Asked>, Replied, Option<u64>);
+/// What comes of an act.
+#[derive(Clone, Copy, Debug, PartialEq, Eq)]
+struct Turn {
+    /// What the prover is asked, if it is.
+    asked: Option<Asked>,
+    /// How its post is answered then.
+    replied: Replied,
+    /// The place of its entry.
+    receipt: Option<u64>,
+}
 
 /// Posts what one of two provers says to the question for its claim after this many passes.
 #[tactic(auto, using(crate::proofs::ClaimLemmas::has_prover))]
@@ -57,7 +70,11 @@ fn post_alone<R: Threads + Wait + Sync>(
     let player = player_at(&cast, &cast, 1, p);
     let answer = Seated { player, alloc }.answer(rt, &Question::claim(), passes)?;
     let posted = board.post(rt, seat, p, CLAIM, move_of(answer));
-    Ok((None, reply_in_short(posted.reply), posted.receipt))
+    Ok(Turn {
+        asked: None,
+        replied: reply_in_short(posted.reply),
+        receipt: posted.receipt,
+    })
 }
 
 /// Asks one of two provers, and posts what it says to the question for its claim after this many passes.
@@ -77,9 +94,9 @@ fn ask_and_post<R: Threads + Wait + Sync>(
     ensures seat { IsSeatOfTwo board.now cast seat.new }
     ensures same { staying_part_of seat.new ≡ staying_part_of seat.old }
 {
-    let asked = ask_in_short(board.ask(rt, seat, p));
-    let (_, reply, receipt) = post_alone(rt, alloc, board, seat, cast, p, passes)?;
-    Ok((Some(asked), reply, receipt))
+    let asked = Some(ask_in_short(board.ask(rt, seat, p)));
+    let turn = post_alone(rt, alloc, board, seat, cast, p, passes)?;
+    Ok(Turn { asked, ..turn })
 }
 
 /// What comes of these acts, one after another.
@@ -97,7 +114,11 @@ fn done<R: Threads + Wait + Sync>(
     ensures first { (seat.new.number ≡ 0) × (seat.new.out ≡ 0) }
 {
     let mut turns = Vec::new(alloc);
-    for (prover, passes, how) in acts {
+    for Act {
+        prover,
+        passes,
+        how,
+    } in acts {
         let p = 2 - prover % 2;
         match how {
             How::Asked => turns.push(ask_and_post(rt, alloc, board, seat, cast, p, *passes)?)?,
@@ -134,6 +155,7 @@ fn played<R: Threads + Wait + Sync>(
 
 /// Two players with a patience, their acts, what comes of these, and how many entries they leave.
 struct Row {
+    row: &'static str,
     players: [Player; 3],
     patience: u32,
     acts: &'static [Act],
@@ -142,66 +164,178 @@ struct Row {
 }
 
 const ROWS: [Row; 4] = [
-    // two silent provers without patience: each pass is spent at once and has its place as receipt; a stale one has none
+    // each pass is spent at once and has its place as receipt; a stale one has none
     Row {
+        row: "two silent provers without patience",
         players: [SILENT; 3],
         patience: 0,
         acts: &[
-            (1, 0, How::Asked),
-            (1, 0, How::Asked),
-            (2, 0, How::Asked),
-            (1, 0, How::Asked),
-            (2, 0, How::Asked),
+            Act {
+                prover: 1,
+                passes: 0,
+                how: How::Asked,
+            },
+            Act {
+                prover: 1,
+                passes: 0,
+                how: How::Asked,
+            },
+            Act {
+                prover: 2,
+                passes: 0,
+                how: How::Asked,
+            },
+            Act {
+                prover: 1,
+                passes: 0,
+                how: How::Asked,
+            },
+            Act {
+                prover: 2,
+                passes: 0,
+                how: How::Asked,
+            },
         ],
         turns: &[
-            (Some(Asked::Claim(0)), Replied::Spent, Some(0)),
-            (Some(Asked::Nothing), Replied::Stale(None), None),
-            (Some(Asked::Claim(0)), Replied::Spent, Some(1)),
-            (Some(Asked::Over), Replied::Stale(None), None),
-            (Some(Asked::Over), Replied::Stale(None), None),
+            Turn {
+                asked: Some(Asked::Claim(0)),
+                replied: Replied::Spent,
+                receipt: Some(0),
+            },
+            Turn {
+                asked: Some(Asked::Nothing),
+                replied: Replied::Stale(None),
+                receipt: None,
+            },
+            Turn {
+                asked: Some(Asked::Claim(0)),
+                replied: Replied::Spent,
+                receipt: Some(1),
+            },
+            Turn {
+                asked: Some(Asked::Over),
+                replied: Replied::Stale(None),
+                receipt: None,
+            },
+            Turn {
+                asked: Some(Asked::Over),
+                replied: Replied::Stale(None),
+                receipt: None,
+            },
         ],
         entries: 2,
     },
-    // a player that passes once on each question: its pass and two claims of two seats are at three places of one journal, its second
-    // question shows the pass, and with both claims the match is over
+    // its pass and two claims of two seats are at three places of one journal, its second question shows the pass, and with both claims
+    // the match is over
     Row {
+        row: "a player that passes once on each question",
         players: [Player { late: 1, ..HONEST }, HONEST, SILENT],
         patience: 1,
         acts: &[
-            (1, 0, How::Asked),
-            (2, 100, How::Aside),
-            (1, 100, How::Asked),
-            (2, 100, How::Asked),
+            Act {
+                prover: 1,
+                passes: 0,
+                how: How::Asked,
+            },
+            Act {
+                prover: 2,
+                passes: 100,
+                how: How::Aside,
+            },
+            Act {
+                prover: 1,
+                passes: 100,
+                how: How::Asked,
+            },
+            Act {
+                prover: 2,
+                passes: 100,
+                how: How::Asked,
+            },
         ],
         turns: &[
-            (Some(Asked::Claim(0)), Replied::Taken, Some(0)),
-            (Some(Asked::Claim(0)), Replied::Taken, Some(1)),
-            (Some(Asked::Claim(1)), Replied::Taken, Some(2)),
-            (Some(Asked::Over), Replied::Stale(None), None),
+            Turn {
+                asked: Some(Asked::Claim(0)),
+                replied: Replied::Taken,
+                receipt: Some(0),
+            },
+            Turn {
+                asked: Some(Asked::Claim(0)),
+                replied: Replied::Taken,
+                receipt: Some(1),
+            },
+            Turn {
+                asked: Some(Asked::Claim(1)),
+                replied: Replied::Taken,
+                receipt: Some(2),
+            },
+            Turn {
+                asked: Some(Asked::Over),
+                replied: Replied::Stale(None),
+                receipt: None,
+            },
         ],
         entries: 3,
     },
-    // a player that passes twice on each question: a claim that comes a pass too early is stale with the open question, has no receipt and
-    // leaves no entry
+    // it is stale with the open question, has no receipt and leaves no entry
     Row {
+        row: "a claim that comes a pass too early",
         players: [Player { late: 2, ..HONEST }, HONEST, SILENT],
         patience: 2,
-        acts: &[(1, 0, How::Asked), (1, 100, How::Asked)],
+        acts: &[
+            Act {
+                prover: 1,
+                passes: 0,
+                how: How::Asked,
+            },
+            Act {
+                prover: 1,
+                passes: 100,
+                how: How::Asked,
+            },
+        ],
         turns: &[
-            (Some(Asked::Claim(0)), Replied::Taken, Some(0)),
-            (Some(Asked::Claim(1)), Replied::Stale(Some(CLAIM)), None),
+            Turn {
+                asked: Some(Asked::Claim(0)),
+                replied: Replied::Taken,
+                receipt: Some(0),
+            },
+            Turn {
+                asked: Some(Asked::Claim(1)),
+                replied: Replied::Stale(Some(CLAIM)),
+                receipt: None,
+            },
         ],
         entries: 1,
     },
-    // a player posts its claim at a board at which nobody was asked: it is taken, as the first entry, and with the other claim the match is
-    // over
+    // it is taken, as the first entry, and with the other claim the match is over
     Row {
+        row: "a claim at a board at which nobody was asked",
         players: [HONEST, HONEST, SILENT],
         patience: 0,
-        acts: &[(1, 0, How::Unasked), (2, 0, How::Asked)],
+        acts: &[
+            Act {
+                prover: 1,
+                passes: 0,
+                how: How::Unasked,
+            },
+            Act {
+                prover: 2,
+                passes: 0,
+                how: How::Asked,
+            },
+        ],
         turns: &[
-            (None, Replied::Taken, Some(0)),
-            (Some(Asked::Claim(0)), Replied::Taken, Some(1)),
+            Turn {
+                asked: None,
+                replied: Replied::Taken,
+                receipt: Some(0),
+            },
+            Turn {
+                asked: Some(Asked::Claim(0)),
+                replied: Replied::Taken,
+                receipt: Some(1),
+            },
         ],
         entries: 2,
     },
@@ -210,13 +344,14 @@ const ROWS: [Row; 4] = [
 /// Posts that aren't stale have their places as receipts, whichever seat posts them, and whether or not it asked before.
 #[test]
 fn posts_have_their_places_as_receipts_unless_they_are_stale(rt: HostRuntime) -> Result<(), Fail> {
-    for (place, row) in ROWS.iter().enumerate() {
+    for row in &ROWS {
         assert!(rt; row.patience <= 100);
         let cast = cast_of(row.players, 2);
         let (turns, entries) = played(&rt, rt.alloc(), cast, row.patience, row.acts)?;
         assert!(rt;
             turns.as_slice() == row.turns && entries == row.entries,
-            "row {place}"
+            "{}: {turns:?}, {entries} entries",
+            row.row
         );
     }
     Ok(())

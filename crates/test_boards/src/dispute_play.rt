@@ -8,23 +8,31 @@ use toy_game::{Player, ToyJudge, given, number_at, passes_now, root};
 const MOST_ROUNDS: u64 = 33;
 
 /// How a dispute ended, without its strings.
-#[derive(Clone, Copy, PartialEq, Eq)]
+#[derive(Clone, Copy, Debug, PartialEq, Eq)]
 pub(crate) enum Ended {
     Open,
     Out(bool, bool),
     Collided,
 }
 
-/// A past round: the ends of its interval, and the number of each side's root at the last cut.
-pub(crate) type Past = (u64, u64, u8, u8);
+/// A past round.
+#[derive(Clone, Copy, Debug, PartialEq, Eq)]
+pub(crate) struct PastRound {
+    /// The ends of its interval.
+    pub lo: u64,
+    pub hi: u64,
+    /// The number of each side's root at the last cut.
+    pub roots: [u8; 2],
+}
 
 /// What comes of a dispute.
-#[derive(Drop)]
+#[derive(Debug, Drop)]
 pub(crate) struct Outcome {
     pub number: u32,
-    pub rounds: Vec<Past>,
-    /// The ends of its interval.
-    pub last: (u64, u64),
+    pub rounds: Vec<PastRound>,
+    /// The ends of its last interval.
+    pub lo: u64,
+    pub hi: u64,
     pub end: Ended,
 }
 
@@ -60,13 +68,12 @@ fn last_number(settled: &Settled) -> u8 {
 }
 
 /// A past round in short.
-fn past(round: &Round) -> Past {
-    (
-        round.lo,
-        round.hi,
-        last_number(&round.first),
-        last_number(&round.second),
-    )
+fn past(round: &Round) -> PastRound {
+    PastRound {
+        lo: round.lo,
+        hi: round.hi,
+        roots: [last_number(&round.first), last_number(&round.second)],
+    }
 }
 
 /// What has come of a dispute.
@@ -80,11 +87,11 @@ fn in_short(alloc: Global, dispute: &Dispute) -> Result<Outcome, Memory> {
         Some(Close::Out { first, second }) => Ended::Out(first, second),
         Some(Close::Collision(_, _)) => Ended::Collided,
     };
-    let last = (dispute.interval().lo, dispute.interval().hi);
     Ok(Outcome {
         number: dispute.number(),
         rounds,
-        last,
+        lo: dispute.interval().lo,
+        hi: dispute.interval().hi,
         end,
     })
 }

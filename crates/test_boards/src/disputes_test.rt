@@ -1,5 +1,5 @@
 //! Tests of disputes by bisection, with rounds of two parts and of several.
-use crate::dispute_play::{Ended, Past, played};
+use crate::dispute_play::{Ended, Outcome, PastRound, played};
 use crate::players::{FALLS_SILENT, FORGER, LIAR_FALLS_SILENT};
 use bisect_game::{Kind, cut};
 use rd_base::{Memory, Qid};
@@ -30,20 +30,28 @@ fn cuts_by_hand(rt: HostRuntime) {
         assert!(rt;
             parts >= 2 && parts <= 16 && j <= parts && u64::from(parts) <= hi.saturating_sub(lo)
         );
-        assert!(rt; cut(lo, hi, parts, j) == wanted, "{wanted}");
+        assert_eq!(rt; cut(lo, hi, parts, j), wanted, "{lo} {hi} {parts} {j}");
     }
 }
 
 /// The past rounds of a dispute: each of them, or how many there are.
-#[derive(Clone, Copy)]
+#[derive(Clone, Copy, Debug)]
 enum Rounds {
-    Are(&'static [Past]),
+    Are(&'static [PastRound]),
     Many(usize),
 }
 
-/// A dispute over so many steps, of which a round cuts its interval in so many parts: its sides, its past rounds, the step of its last
-/// interval, and how it ends.
-type Row = (u64, u32, (Player, Player), Rounds, u64, Ended);
+/// A dispute over so many steps, of which a round cuts its interval in so many parts.
+#[derive(Clone, Copy, Debug)]
+struct Row {
+    bound: u64,
+    fan: u32,
+    sides: (Player, Player),
+    rounds: Rounds,
+    /// The step of its last interval.
+    step: u64,
+    end: Ended,
+}
 
 /// A player that lies from this step on.
 macro_rules! liar {
@@ -62,148 +70,325 @@ const SECOND_OUT: Ended = Ended::Out(false, true);
 /// difference at step 1 the halves are rounded down, at the last step up. The root of `HONEST` has the number of its step, or 6 if that is
 /// less; from the step on at which a liar lies its root has the step plus 100, modulo 256.
 const DISPUTES: [Row; 20] = [
-    (
-        8,
-        2,
-        (HONEST, LIAR),
-        Rounds::Are(&[(0, 8, 4, 104), (0, 4, 2, 102), (0, 2, 1, 1)]),
-        1,
-        SECOND_OUT,
-    ),
-    (1, 2, (HONEST, liar!(1)), Rounds::Are(&[]), 0, SECOND_OUT),
-    (
-        7,
-        2,
-        (HONEST, liar!(7)),
-        Rounds::Are(&[(0, 7, 3, 3), (3, 7, 5, 5), (5, 7, 6, 6)]),
-        6,
-        SECOND_OUT,
-    ),
-    (
-        8,
-        2,
-        (FALLS_SILENT, LIAR_FALLS_SILENT),
-        Rounds::Are(&[(0, 8, 4, 104)]),
-        0,
-        Ended::Out(true, true),
-    ),
-    (1, 2, (HONEST, FORGER), Rounds::Are(&[]), 0, Ended::Collided),
-    (
-        8,
-        4,
-        (HONEST, liar!(2)),
-        Rounds::Are(&[(0, 8, 6, 106), (0, 2, 1, 1)]),
-        1,
-        SECOND_OUT,
-    ),
-    (
-        7,
-        3,
-        (HONEST, liar!(7)),
-        Rounds::Are(&[(0, 7, 4, 4), (4, 7, 6, 6)]),
-        6,
-        SECOND_OUT,
-    ),
-    (
-        8,
-        4,
-        (HONEST, liar!(1)),
-        Rounds::Are(&[(0, 8, 6, 106), (0, 2, 1, 101)]),
-        0,
-        SECOND_OUT,
-    ),
-    (
-        17,
-        16,
-        (HONEST, liar!(9)),
-        Rounds::Are(&[(0, 17, 6, 115)]),
-        8,
-        SECOND_OUT,
-    ),
-    (
-        16,
-        3,
-        (HONEST, liar!(16)),
-        Rounds::Are(&[(0, 16, 6, 6), (10, 16, 6, 6), (14, 16, 6, 6)]),
-        15,
-        SECOND_OUT,
-    ),
-    (1, 16, (HONEST, liar!(1)), Rounds::Are(&[]), 0, SECOND_OUT),
-    (
-        4_294_967_295,
-        16,
-        (HONEST, liar!(2)),
-        Rounds::Are(&[
-            (0, 4_294_967_295, 6, 99),
-            (0, 268_435_455, 6, 99),
-            (0, 16_777_215, 6, 99),
-            (0, 1_048_575, 6, 99),
-            (0, 65_535, 6, 99),
-            (0, 4_095, 6, 99),
-            (0, 255, 6, 83),
-            (0, 15, 6, 114),
+    Row {
+        bound: 8,
+        fan: 2,
+        sides: (HONEST, LIAR),
+        rounds: Rounds::Are(&[
+            PastRound {
+                lo: 0,
+                hi: 8,
+                roots: [4, 104],
+            },
+            PastRound {
+                lo: 0,
+                hi: 4,
+                roots: [2, 102],
+            },
+            PastRound {
+                lo: 0,
+                hi: 2,
+                roots: [1, 1],
+            },
         ]),
-        1,
-        SECOND_OUT,
-    ),
-    (2, 2, (HONEST, liar!(1)), Rounds::Many(1), 0, SECOND_OUT),
-    (2, 2, (HONEST, liar!(2)), Rounds::Many(1), 1, SECOND_OUT),
-    (3, 2, (HONEST, liar!(1)), Rounds::Many(1), 0, SECOND_OUT),
-    (3, 2, (HONEST, liar!(3)), Rounds::Many(2), 2, SECOND_OUT),
-    (
-        16_777_216,
-        2,
-        (HONEST, liar!(1)),
-        Rounds::Many(24),
-        0,
-        SECOND_OUT,
-    ),
-    (
-        16_777_216,
-        2,
-        (HONEST, liar!(16_777_216)),
-        Rounds::Many(24),
-        16_777_215,
-        SECOND_OUT,
-    ),
-    (
-        4_294_967_295,
-        2,
-        (HONEST, liar!(1)),
-        Rounds::Many(31),
-        0,
-        SECOND_OUT,
-    ),
+        step: 1,
+        end: SECOND_OUT,
+    },
+    Row {
+        bound: 1,
+        fan: 2,
+        sides: (HONEST, liar!(1)),
+        rounds: Rounds::Are(&[]),
+        step: 0,
+        end: SECOND_OUT,
+    },
+    Row {
+        bound: 7,
+        fan: 2,
+        sides: (HONEST, liar!(7)),
+        rounds: Rounds::Are(&[
+            PastRound {
+                lo: 0,
+                hi: 7,
+                roots: [3, 3],
+            },
+            PastRound {
+                lo: 3,
+                hi: 7,
+                roots: [5, 5],
+            },
+            PastRound {
+                lo: 5,
+                hi: 7,
+                roots: [6, 6],
+            },
+        ]),
+        step: 6,
+        end: SECOND_OUT,
+    },
+    Row {
+        bound: 8,
+        fan: 2,
+        sides: (FALLS_SILENT, LIAR_FALLS_SILENT),
+        rounds: Rounds::Are(&[PastRound {
+            lo: 0,
+            hi: 8,
+            roots: [4, 104],
+        }]),
+        step: 0,
+        end: Ended::Out(true, true),
+    },
+    Row {
+        bound: 1,
+        fan: 2,
+        sides: (HONEST, FORGER),
+        rounds: Rounds::Are(&[]),
+        step: 0,
+        end: Ended::Collided,
+    },
+    Row {
+        bound: 8,
+        fan: 4,
+        sides: (HONEST, liar!(2)),
+        rounds: Rounds::Are(&[
+            PastRound {
+                lo: 0,
+                hi: 8,
+                roots: [6, 106],
+            },
+            PastRound {
+                lo: 0,
+                hi: 2,
+                roots: [1, 1],
+            },
+        ]),
+        step: 1,
+        end: SECOND_OUT,
+    },
+    Row {
+        bound: 7,
+        fan: 3,
+        sides: (HONEST, liar!(7)),
+        rounds: Rounds::Are(&[
+            PastRound {
+                lo: 0,
+                hi: 7,
+                roots: [4, 4],
+            },
+            PastRound {
+                lo: 4,
+                hi: 7,
+                roots: [6, 6],
+            },
+        ]),
+        step: 6,
+        end: SECOND_OUT,
+    },
+    Row {
+        bound: 8,
+        fan: 4,
+        sides: (HONEST, liar!(1)),
+        rounds: Rounds::Are(&[
+            PastRound {
+                lo: 0,
+                hi: 8,
+                roots: [6, 106],
+            },
+            PastRound {
+                lo: 0,
+                hi: 2,
+                roots: [1, 101],
+            },
+        ]),
+        step: 0,
+        end: SECOND_OUT,
+    },
+    Row {
+        bound: 17,
+        fan: 16,
+        sides: (HONEST, liar!(9)),
+        rounds: Rounds::Are(&[PastRound {
+            lo: 0,
+            hi: 17,
+            roots: [6, 115],
+        }]),
+        step: 8,
+        end: SECOND_OUT,
+    },
+    Row {
+        bound: 16,
+        fan: 3,
+        sides: (HONEST, liar!(16)),
+        rounds: Rounds::Are(&[
+            PastRound {
+                lo: 0,
+                hi: 16,
+                roots: [6, 6],
+            },
+            PastRound {
+                lo: 10,
+                hi: 16,
+                roots: [6, 6],
+            },
+            PastRound {
+                lo: 14,
+                hi: 16,
+                roots: [6, 6],
+            },
+        ]),
+        step: 15,
+        end: SECOND_OUT,
+    },
+    Row {
+        bound: 1,
+        fan: 16,
+        sides: (HONEST, liar!(1)),
+        rounds: Rounds::Are(&[]),
+        step: 0,
+        end: SECOND_OUT,
+    },
+    Row {
+        bound: 4_294_967_295,
+        fan: 16,
+        sides: (HONEST, liar!(2)),
+        rounds: Rounds::Are(&[
+            PastRound {
+                lo: 0,
+                hi: 4_294_967_295,
+                roots: [6, 99],
+            },
+            PastRound {
+                lo: 0,
+                hi: 268_435_455,
+                roots: [6, 99],
+            },
+            PastRound {
+                lo: 0,
+                hi: 16_777_215,
+                roots: [6, 99],
+            },
+            PastRound {
+                lo: 0,
+                hi: 1_048_575,
+                roots: [6, 99],
+            },
+            PastRound {
+                lo: 0,
+                hi: 65_535,
+                roots: [6, 99],
+            },
+            PastRound {
+                lo: 0,
+                hi: 4_095,
+                roots: [6, 99],
+            },
+            PastRound {
+                lo: 0,
+                hi: 255,
+                roots: [6, 83],
+            },
+            PastRound {
+                lo: 0,
+                hi: 15,
+                roots: [6, 114],
+            },
+        ]),
+        step: 1,
+        end: SECOND_OUT,
+    },
+    Row {
+        bound: 2,
+        fan: 2,
+        sides: (HONEST, liar!(1)),
+        rounds: Rounds::Many(1),
+        step: 0,
+        end: SECOND_OUT,
+    },
+    Row {
+        bound: 2,
+        fan: 2,
+        sides: (HONEST, liar!(2)),
+        rounds: Rounds::Many(1),
+        step: 1,
+        end: SECOND_OUT,
+    },
+    Row {
+        bound: 3,
+        fan: 2,
+        sides: (HONEST, liar!(1)),
+        rounds: Rounds::Many(1),
+        step: 0,
+        end: SECOND_OUT,
+    },
+    Row {
+        bound: 3,
+        fan: 2,
+        sides: (HONEST, liar!(3)),
+        rounds: Rounds::Many(2),
+        step: 2,
+        end: SECOND_OUT,
+    },
+    Row {
+        bound: 16_777_216,
+        fan: 2,
+        sides: (HONEST, liar!(1)),
+        rounds: Rounds::Many(24),
+        step: 0,
+        end: SECOND_OUT,
+    },
+    Row {
+        bound: 16_777_216,
+        fan: 2,
+        sides: (HONEST, liar!(16_777_216)),
+        rounds: Rounds::Many(24),
+        step: 16_777_215,
+        end: SECOND_OUT,
+    },
+    Row {
+        bound: 4_294_967_295,
+        fan: 2,
+        sides: (HONEST, liar!(1)),
+        rounds: Rounds::Many(31),
+        step: 0,
+        end: SECOND_OUT,
+    },
     // at the last step of the largest bound the root of `HONEST` isn't the true one either
-    (
-        4_294_967_295,
-        2,
-        (HONEST, liar!(4_294_967_295)),
-        Rounds::Many(32),
-        4_294_967_294,
-        Ended::Out(true, true),
-    ),
+    Row {
+        bound: 4_294_967_295,
+        fan: 2,
+        sides: (HONEST, liar!(4_294_967_295)),
+        rounds: Rounds::Many(32),
+        step: 4_294_967_294,
+        end: Ended::Out(true, true),
+    },
 ];
 
-/// Whether a dispute is played so in this order.
-fn is_played_so(alloc: Global, row: &Row, order: u64) -> Result<bool, Memory> {
-    let (bound, fan, sides, rounds, step, end) = *row;
-    let Some(played) = played(alloc, bound, fan, sides, order)? else {
-        return Ok(false);
-    };
-    let so = match rounds {
+/// Whether this comes of the dispute of a row.
+fn is_outcome(row: &Row, played: &Outcome) -> bool {
+    let are_rounds = match row.rounds {
         Rounds::Are(rounds) => played.rounds.as_slice() == rounds,
         Rounds::Many(count) => played.rounds.len() == count,
     };
-    Ok(so && played.last.0 == step && played.end == end && played.number == 7)
+    are_rounds && played.lo == row.step && played.end == row.end && played.number == 7
+}
+
+/// What comes of the dispute of a row in this order, if it is something else.
+fn other_outcome(alloc: Global, row: &Row, order: u64) -> Result<Option<Outcome>, Memory> {
+    let Some(played) = played(alloc, row.bound, row.fan, row.sides, order)? else {
+        return Err(Memory);
+    };
+    if is_outcome(row, &played) {
+        return Ok(None);
+    }
+    Ok(Some(played))
 }
 
 #[test]
 fn disputes_are_played_round_by_round_in_either_order(rt: HostRuntime) -> Result<(), Fail> {
-    for (place, row) in DISPUTES.iter().enumerate() {
+    for row in &DISPUTES {
         for order in [0, u64::MAX] {
-            let is_right = is_played_so(rt.alloc(), row, order)?;
-            assert!(rt; is_right, "row {place}");
+            let other = other_outcome(rt.alloc(), row, order)?;
+            assert!(rt; other.is_none(), "{row:?}: {other:?}");
         }
     }
     Ok(())
@@ -243,7 +428,7 @@ fn ends_at_a_parting(
     let Some(played) = played(alloc, bound, fan, sides, order)? else {
         return Ok(false);
     };
-    let (lo, hi) = played.last;
+    let (lo, hi) = (played.lo, played.hi);
     Ok(
         hi.wrapping_sub(lo) == 1
             && number_at(&sides.0, lo) == number_at(&sides.1, lo)
@@ -333,7 +518,7 @@ fn reply_to(alloc: Global, kind: Kind) -> Result<Replied, Memory> {
 /// Three roots are asked: three are taken, and two, four, one alone and an answer of another kind are faulty.
 #[test]
 fn a_list_of_another_length_is_faulty(rt: HostRuntime) -> Result<(), Fail> {
-    for (place, (kind, wanted)) in [
+    for (kind, wanted) in [
         (
             Kind::Roots {
                 lo: 0,
@@ -361,12 +546,8 @@ fn a_list_of_another_length_is_faulty(rt: HostRuntime) -> Result<(), Fail> {
         (Kind::Root(2), Replied::Faulty),
         (Kind::Proof(0), Replied::Faulty),
         (Kind::Claim, Replied::Faulty),
-    ]
-    .iter()
-    .enumerate()
-    {
-        let is_right = reply_to(rt.alloc(), *kind)? == *wanted;
-        assert!(rt; is_right, "row {place}");
+    ] {
+        assert_eq!(rt; reply_to(rt.alloc(), kind)?, wanted, "{kind:?}");
     }
     Ok(())
 }

@@ -60,8 +60,16 @@ fn tell(ledger: &mut Ledger, told: Told) -> bool
     true
 }
 
-/// What each prover of a ledger of three has, who is out, and what is in the pool.
-type Amounts = ([u64; 3], [bool; 3], u64);
+/// What a ledger of three provers says.
+#[derive(Clone, Copy, Debug, PartialEq, Eq)]
+struct Amounts {
+    /// What each prover has.
+    balances: [u64; 3],
+    /// Whether each is out.
+    out: [bool; 3],
+    /// What is in the pool.
+    pool: u64,
+}
 
 /// What a ledger of three provers with a stake of 10 each says after these events. `None` if one of them may not be applied.
 fn after(alloc: Global, events: &[Told]) -> Result<Option<Amounts>, Memory> {
@@ -71,13 +79,19 @@ fn after(alloc: Global, events: &[Told]) -> Result<Option<Amounts>, Memory> {
             return Ok(None);
         }
     }
-    let balances = [ledger.balance(1), ledger.balance(2), ledger.balance(3)];
-    let out = [ledger.is_out(1), ledger.is_out(2), ledger.is_out(3)];
-    Ok(Some((balances, out, ledger.pool())))
+    Ok(Some(Amounts {
+        balances: [ledger.balance(1), ledger.balance(2), ledger.balance(3)],
+        out: [ledger.is_out(1), ledger.is_out(2), ledger.is_out(3)],
+        pool: ledger.pool(),
+    }))
 }
 
 /// What a ledger says at its beginning.
-const BEGUN: Amounts = ([10, 10, 10], [false, false, false], 0);
+const BEGUN: Amounts = Amounts {
+    balances: [10, 10, 10],
+    out: [false, false, false],
+    pool: 0,
+};
 
 const WINS: Told = Told::Out(1, 2, false, true);
 
@@ -86,53 +100,109 @@ const LOSES: Told = Told::Out(1, 3, true, false);
 const COLLIDES: Told = Told::Collision(1, 3);
 
 /// Prover 3 has won the stake of prover 1, which had won that of prover 2.
-const IN_ANY_ORDER: Amounts = ([10, 0, 20], [true, true, false], 0);
+const IN_ANY_ORDER: Amounts = Amounts {
+    balances: [10, 0, 20],
+    out: [true, true, false],
+    pool: 0,
+};
 
 /// Events, and what a ledger says after them.
-const LEDGERS: [(&[Told], Amounts); 12] = [
-    // begun
-    (&[], BEGUN),
-    // a claim is out
-    (
-        &[Told::ClaimOut(2)],
-        ([10, 0, 10], [false, true, false], 10),
-    ),
-    // the first side is out
-    (
-        &[Told::Out(1, 3, true, false)],
-        ([0, 10, 20], [true, false, false], 0),
-    ),
-    // the second side is out
-    (
-        &[Told::Out(1, 3, false, true)],
-        ([20, 10, 0], [false, false, true], 0),
-    ),
-    // both sides are out
-    (
-        &[Told::Out(1, 2, true, true)],
-        ([0, 0, 10], [true, true, false], 20),
-    ),
-    // a collision
-    (&[Told::Collision(1, 2)], BEGUN),
-    // one puts out both others
-    (
-        &[Told::Out(1, 3, true, false), Told::Out(2, 3, true, false)],
-        ([0, 0, 30], [true, true, false], 0),
-    ),
-    // a winner is out and loses its own stake
-    (
-        &[Told::Out(1, 2, false, true), Told::Out(1, 3, true, false)],
-        ([10, 0, 20], [true, true, false], 0),
-    ),
-    // nobody stays
-    (
-        &[Told::ClaimOut(3), Told::Out(1, 2, true, true)],
-        ([0, 0, 0], [true, true, true], 30),
-    ),
-    // the order of events doesn't matter: who loses its stake wins one before or after
-    (&[WINS, LOSES, COLLIDES], IN_ANY_ORDER),
-    (&[LOSES, WINS, COLLIDES], IN_ANY_ORDER),
-    (&[COLLIDES, LOSES, WINS], IN_ANY_ORDER),
+struct Row {
+    row: &'static str,
+    events: &'static [Told],
+    amounts: Amounts,
+}
+
+/// The order of events doesn't matter: who loses its stake wins one before or after.
+const LEDGERS: [Row; 12] = [
+    Row {
+        row: "begun",
+        events: &[],
+        amounts: BEGUN,
+    },
+    Row {
+        row: "a claim is out",
+        events: &[Told::ClaimOut(2)],
+        amounts: Amounts {
+            balances: [10, 0, 10],
+            out: [false, true, false],
+            pool: 10,
+        },
+    },
+    Row {
+        row: "the first side is out",
+        events: &[Told::Out(1, 3, true, false)],
+        amounts: Amounts {
+            balances: [0, 10, 20],
+            out: [true, false, false],
+            pool: 0,
+        },
+    },
+    Row {
+        row: "the second side is out",
+        events: &[Told::Out(1, 3, false, true)],
+        amounts: Amounts {
+            balances: [20, 10, 0],
+            out: [false, false, true],
+            pool: 0,
+        },
+    },
+    Row {
+        row: "both sides are out",
+        events: &[Told::Out(1, 2, true, true)],
+        amounts: Amounts {
+            balances: [0, 0, 10],
+            out: [true, true, false],
+            pool: 20,
+        },
+    },
+    Row {
+        row: "a collision",
+        events: &[Told::Collision(1, 2)],
+        amounts: BEGUN,
+    },
+    Row {
+        row: "one puts out both others",
+        events: &[Told::Out(1, 3, true, false), Told::Out(2, 3, true, false)],
+        amounts: Amounts {
+            balances: [0, 0, 30],
+            out: [true, true, false],
+            pool: 0,
+        },
+    },
+    Row {
+        row: "a winner is out and loses its own stake",
+        events: &[Told::Out(1, 2, false, true), Told::Out(1, 3, true, false)],
+        amounts: Amounts {
+            balances: [10, 0, 20],
+            out: [true, true, false],
+            pool: 0,
+        },
+    },
+    Row {
+        row: "nobody stays",
+        events: &[Told::ClaimOut(3), Told::Out(1, 2, true, true)],
+        amounts: Amounts {
+            balances: [0, 0, 0],
+            out: [true, true, true],
+            pool: 30,
+        },
+    },
+    Row {
+        row: "wins, loses and collides",
+        events: &[WINS, LOSES, COLLIDES],
+        amounts: IN_ANY_ORDER,
+    },
+    Row {
+        row: "loses, wins and collides",
+        events: &[LOSES, WINS, COLLIDES],
+        amounts: IN_ANY_ORDER,
+    },
+    Row {
+        row: "collides, loses and wins",
+        events: &[COLLIDES, LOSES, WINS],
+        amounts: IN_ANY_ORDER,
+    },
 ];
 
 /// A ledger moves the stakes of those who are out, and no others, in whatever order they come.
@@ -140,9 +210,9 @@ const LEDGERS: [(&[Told], Amounts); 12] = [
 fn a_ledger_moves_the_stakes_of_those_who_are_out_in_any_order(
     rt: HostRuntime,
 ) -> Result<(), Fail> {
-    for (place, (events, amounts)) in LEDGERS.iter().enumerate() {
-        let after = after(rt.alloc(), events)?;
-        assert!(rt; after == Some(*amounts), "row {place}");
+    for row in &LEDGERS {
+        let after = after(rt.alloc(), row.events)?;
+        assert_eq!(rt; after, Some(row.amounts), "{}", row.row);
     }
     Ok(())
 }

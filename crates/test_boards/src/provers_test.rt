@@ -5,7 +5,7 @@ ghost use Rattle.rv_step.specs.State.{IsChained};
 ghost use Rattle.case_match.specs.Openings.{IsFresh};
 
 use crate::gates::{OfOneTask, Watch};
-use crate::in_short::{Short, in_short};
+use crate::in_short::{A_LIE_FOUND, Short, in_short};
 use bisect_game::{Answerer, Provers};
 use board_book::Book;
 use case_match::{LoadedCase, Options, ended_tasks};
@@ -25,7 +25,6 @@ use std::test::Fail;
 use std::thread::Threads;
 use step_referee::MachineJudge;
 use tournament::Verdict;
-use toy_game::in_short::Ended;
 
 /// The program addi a0, zero, 42; addi a7, zero, 1; ecall; addi a0, zero, 0; addi a7, zero, 93; ecall: it writes the byte 42 and exits.
 const PROGRAM: &[u8] =
@@ -109,9 +108,7 @@ fn played_in_short<R: Threads + Wait + Sync>(
 fn posters_of_runs_side_by_side(rt: HostRuntime) -> Result<(), Fail> {
     let watch = Watch::new(true);
     let short = played_in_short(&rt, rt.alloc(), &watch)?;
-    let dispute = Some((1, 1, 1, 2, 3, false, true));
-    let wanted = (10, Ended::Accepted(1), [dispute, None, None]);
-    assert!(rt; short == wanted && watch.met() == 10);
+    assert_eq!(rt; (short, watch.met()), (A_LIE_FOUND, 10));
     Ok(())
 }
 
@@ -167,6 +164,6 @@ fn accepted_prover<R: Threads + Wait + Sync>(
 fn as_many_posters_as_the_options_say(rt: HostRuntime) -> Result<(), Fail> {
     let watch = Watch::new(true);
     let accepted = accepted_prover(&rt, rt.alloc(), &OfOneTask { watch: &watch })?;
-    assert!(rt; accepted == Some(1) && watch.met() == 10);
+    assert_eq!(rt; (accepted, watch.met()), (Some(1), 10));
     Ok(())
 }

@@ -6,6 +6,7 @@ ghost use Rattle.posters.specs.Serving.{staying_part_of};
 ghost use Rattle.test_boards.specs.TaskSeats.{IsSeatOfTasks};
 
 use crate::casts::{Account, books_of, cast_of};
+use crate::in_short::{A_LIE_FOUND, Short};
 use bisect_game::Answerer;
 use board_book::Ask;
 use dispute_board::{TaskBoard, TaskSeat, what_is_said_may_be_posted};
@@ -132,14 +133,12 @@ fn every_interleaving_of_two_tasks(rt: HostRuntime) -> Result<(), Fail> {
             orders = orders.wrapping_add(1);
         }
     }
-    let ends = [
-        (4, Ended::Accepted(1), [None, None, None]),
-        (
-            10,
-            Ended::Accepted(1),
-            [Some((1, 1, 1, 2, 3, false, true)), None, None],
-        ),
-    ];
+    let undisputed = Short {
+        entries: 4,
+        end: Ended::Accepted(1),
+        disputes: [None; 3],
+    };
+    let ends = [undisputed, A_LIE_FOUND];
     let are_ends = wanted.shorts.as_slice() == ends.as_slice();
     assert!(rt; are_ends && orders == 1001);
     Ok(())

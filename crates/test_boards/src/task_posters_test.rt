@@ -6,14 +6,22 @@ use crate::gates::Watch;
 use crate::in_short::{Short, THE_MATCH};
 use posters::OpenGate;
 use std::test::Fail;
-use toy_game::in_short::{Ended, LATE, SILENT_LIAR};
+use toy_game::in_short::{Ended, LATE, Line, SILENT_LIAR};
 use toy_game::{Cast, HONEST, LIAR, SILENT};
 
 /// The match of a prover without another, in short.
-const ALONE: Short = (1, Ended::Accepted(1), [None, None, None]);
+const ALONE: Short = Short {
+    entries: 1,
+    end: Ended::Accepted(1),
+    disputes: [None; 3],
+};
 
 /// The match of two silent provers, in short: each passes twice.
-const SILENCE: Short = (4, Ended::NoneLeft, [None, None, None]);
+const SILENCE: Short = Short {
+    entries: 4,
+    end: Ended::NoneLeft,
+    disputes: [None; 3],
+};
 
 /// Tasks of 23, of 1 and of 4 entries, the longest with a lying, a late and a silent prover, and the last with two silent ones. Each
 /// ends as it ends alone, however many posters there are. One poster posts each entry: it doesn't end with its first task's end, as
@@ -56,12 +64,22 @@ fn sixteen(liar: u32) -> Cast
 /// How the match of sixteen players ends of whom the prover of this number lies: sixteen claims, and four answers of each side of its one
 /// dispute, three roots and a proof. The first prover's dispute is with the first one of another root, which the liar loses.
 fn end_of_sixteen(liar: u32) -> Short {
-    if liar == 1 {
-        let dispute = (1, 1, 1, 2, 3, true, false);
-        (24, Ended::Accepted(2), [Some(dispute), None, None])
+    let (accepted, second, out) = if liar == 1 {
+        (2, 2, [true, false])
     } else {
-        let dispute = (1, 1, 1, liar, 3, false, true);
-        (24, Ended::Accepted(1), [Some(dispute), None, None])
+        (1, liar, [false, true])
+    };
+    let dispute = Line {
+        stage: 1,
+        number: 1,
+        sides: [1, second],
+        rounds: 3,
+        out,
+    };
+    Short {
+        entries: 24,
+        end: Ended::Accepted(accepted),
+        disputes: [Some(dispute), None, None],
     }
 }
 

@@ -1,10 +1,9 @@
-//! What tests compare of a match, as plain values, and the match of three provers that they play.
+//! What tests compare of a match, as plain values, and players of the match that they play.
 use crate::player::{HONEST, LIAR, Player};
 use bisect_game::{Close, Dispute, Kind, Side};
 use board_book::Ask;
-use rd_base::{Memory, Qid};
-use std::alloc::Global;
-use tournament::{Record, Reply, Verdict};
+use rd_base::Qid;
+use tournament::{Reply, Verdict};
 
 /// The number of a claim's question.
 pub const CLAIM: Qid = Qid {
@@ -21,8 +20,18 @@ pub enum Ended {
     Collided,
 }
 
-/// A dispute in short: stage, number, sides, past rounds, and who is out.
-pub type Line = (u32, u32, u32, u32, usize, bool, bool);
+/// A dispute in short.
+#[derive(Clone, Copy, Debug, PartialEq, Eq)]
+pub struct Line {
+    pub stage: u32,
+    pub number: u32,
+    /// The provers that are its sides.
+    pub sides: [u32; 2],
+    /// How many past rounds it has.
+    pub rounds: usize,
+    /// Whether each side is out.
+    pub out: [bool; 2],
+}
 
 /// A player that passes once on each question.
 pub const LATE: Player = Player { late: 1, ..HONEST };
@@ -33,9 +42,6 @@ pub const SILENT_LIAR: Player = Player {
     from: 5,
     ..LIAR
 };
-
-/// The match of a liar, a late prover and a silent liar, with a patience of 1, in short.
-pub const LINES: [Line; 2] = [(1, 1, 1, 2, 3, true, false), (2, 2, 2, 3, 1, false, true)];
 
 /// How a match ended, by its verdict.
 pub fn how(verdict: Option<Verdict>) -> Ended {
@@ -48,29 +54,18 @@ pub fn how(verdict: Option<Verdict>) -> Ended {
 }
 
 /// A dispute in short.
-pub fn line(dispute: &Dispute) -> Line {
-    let (first, second) = match dispute.closed() {
-        Some(Close::Out { first, second }) => (first, second),
-        _ => (false, false),
+pub fn dispute_in_short(dispute: &Dispute) -> Line {
+    let out = match dispute.closed() {
+        Some(Close::Out { first, second }) => [first, second],
+        _ => [false, false],
     };
-    (
-        dispute.stage(),
-        dispute.number(),
-        dispute.prover(Side::First),
-        dispute.prover(Side::Second),
-        dispute.rounds().len(),
-        first,
-        second,
-    )
-}
-
-/// The disputes of a record in short.
-pub fn lines(alloc: Global, record: &Record) -> Result<Vec<Line>, Memory> {
-    let mut lines = Vec::new(alloc);
-    for dispute in record.disputes() {
-        lines.push(line(dispute))?;
+    Line {
+        stage: dispute.stage(),
+        number: dispute.number(),
+        sides: [dispute.prover(Side::First), dispute.prover(Side::Second)],
+        rounds: dispute.rounds().len(),
+        out,
     }
-    Ok(lines)
 }
 
 /// What a prover is asked, in short.
