@@ -1,18 +1,27 @@
 //! Rows of one instruction word.
-use crate::words::number;
 use rd_base::Regs;
 use rv_decode::decode;
 use rv_step::{Outcome, finish};
 use std::alloc::Global;
-use toy_rows::{Unanswered, add_part, hexadecimal_of};
+use toy_rows::{Unanswered, add_part, bytes, number, number_of};
+
+/// The word of four bytes, the lowest first.
+fn listed(alloc: Global, words: &[&str]) -> Result<u32, Unanswered> {
+    let bytes = bytes(alloc, words, 1)?;
+    match bytes.as_slice() {
+        [a, b, c, d] => Ok(u32::from_le_bytes([*a, *b, *c, *d])),
+        _ => Err(Unanswered::NoRow),
+    }
+}
 
 /// `decode WORD`, and `listed BYTES` with the four bytes of a word as a file has them, the lowest first: its instruction, as the fields
 /// print; `None` if it is none.
 pub fn reading(alloc: Global, words: &[&str], is_listed: bool) -> Result<String, Unanswered> {
-    let mut word = number(words, 1)?;
-    if is_listed {
-        word = u32::swap_bytes(word);
-    }
+    let word = if is_listed {
+        listed(alloc, words)?
+    } else {
+        number(words, 1)?
+    };
     Ok(format!(in alloc; "{:?}", decode(word))?)
 }
 
@@ -31,7 +40,7 @@ fn result_of(word: u32, a: u32, b: u32, loaded: u32) -> Option<u32> {
 /// Adds a result behind a space.
 fn add(alloc: Global, results: &mut String, value: Option<u32>) -> Result<(), Unanswered> {
     match value {
-        Some(value) => add_part(results, " ", format!(in alloc; "{value:x}")?.as_str()),
+        Some(value) => add_part(results, " ", format!(in alloc; "0x{value:x}")?.as_str()),
         None => add_part(results, " ", "none"),
     }
 }
@@ -39,16 +48,16 @@ fn add(alloc: Global, results: &mut String, value: Option<u32>) -> Result<(), Un
 /// The operands in a text, of x1 and x2; the second one is 0 if it is left out.
 fn operands_of(text: &str) -> Result<(u32, u32), Unanswered> {
     match text.split_once(',') {
-        Some((a, b)) => Ok((hexadecimal_of(a)?, hexadecimal_of(b)?)),
-        None => Ok((hexadecimal_of(text)?, 0)),
+        Some((a, b)) => Ok((number_of(a)?, number_of(b)?)),
+        None => Ok((number_of(text)?, 0)),
     }
 }
 
-/// `x3 WORD A,B ..`: what the word leaves in x3 for each pair of operands.
-pub fn results(alloc: Global, words: &[&str]) -> Result<String, Unanswered> {
+/// `x3 WORD`: what the word leaves in x3 for each pair of operands, between spaces.
+pub fn results(alloc: Global, operands: &str, words: &[&str]) -> Result<String, Unanswered> {
     let word = number(words, 1)?;
     let mut results = String::new(alloc);
-    for text in words.get(2..).unwrap_or(&[]) {
+    for text in operands.split(' ') {
         let (a, b) = operands_of(text)?;
         add(alloc, &mut results, result_of(word, a, b, 0))?;
     }
@@ -60,11 +69,7 @@ pub fn loads(alloc: Global, words: &[&str]) -> Result<String, Unanswered> {
     let word = number(words, 1)?;
     let mut results = String::new(alloc);
     for text in words.get(2..).unwrap_or(&[]) {
-        add(
-            alloc,
-            &mut results,
-            result_of(word, 0, 0, hexadecimal_of(text)?),
-        )?;
+        add(alloc, &mut results, result_of(word, 0, 0, number_of(text)?))?;
     }
     Ok(results)
 }

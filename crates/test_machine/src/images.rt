@@ -1,9 +1,8 @@
 //! Rows of an image. What is loaded becomes the first memory.
 use crate::memory::Memories;
-use crate::words::number;
 use image_reader::{ImageFault, Loaded, load_elf, load_flat};
 use std::alloc::Global;
-use toy_rows::{Unanswered, hexadecimal_of};
+use toy_rows::{Unanswered, byte_of, number, number_of};
 
 /// What a file is loaded as: its entry, or the fault.
 fn loaded(
@@ -20,7 +19,7 @@ fn loaded(
     match read {
         Ok(Loaded { mem, entry }) => {
             both.first = mem;
-            Ok(format!(in alloc; "entry {entry:08x}")?)
+            Ok(format!(in alloc; "entry 0x{entry:08x}")?)
         }
         Err(fault) => Ok(format!(in alloc; "{fault:?}")?),
     }
@@ -28,13 +27,13 @@ fn loaded(
 
 /// Changes the byte at a place.
 fn change(file: &mut [u8], place: &str, byte: &str) -> Result<(), Unanswered> {
-    let value = hexadecimal_of(byte)?;
-    match file.get_mut(hexadecimal_of(place)? as usize) {
-        Some(changed) if value < 256 => {
-            *changed = value as u8;
+    let value = byte_of(byte)?;
+    match file.get_mut(number_of(place)? as usize) {
+        Some(changed) => {
+            *changed = value;
             Ok(())
         }
-        _ => Err(Unanswered::NoRow),
+        None => Err(Unanswered::NoRow),
     }
 }
 
@@ -51,7 +50,7 @@ fn shorten(file: &mut Vec<u8>, length: usize) -> Result<(), Unanswered> {
 fn edit(file: &mut Vec<u8>, edit: &str) -> Result<(), Unanswered> {
     match edit.split_once('=') {
         Some((place, byte)) => change(file.as_mut_slice(), place, byte),
-        None => shorten(file, hexadecimal_of(edit)? as usize),
+        None => shorten(file, number_of(edit)? as usize),
     }
 }
 
@@ -85,7 +84,7 @@ pub fn load_zeros(
 /// Adds the fields that a text writes, four bytes each, the lowest first.
 fn add_fields(made: &mut Vec<u8>, fields: &str) -> Result<(), Unanswered> {
     for field in fields.split(',') {
-        made.extend_from_slice(&hexadecimal_of(field)?.to_le_bytes())?;
+        made.extend_from_slice(&number_of(field)?.to_le_bytes())?;
     }
     Ok(())
 }

@@ -2,13 +2,13 @@
 ghost use Rattle.std.specs.Prelude.{ℕ, ◌≤◌, List, length, IfOk};
 ghost use Rattle.rv_step.specs.State.{IsChained};
 
-use crate::words::{number, written};
+use crate::words::written;
 use digest_core::Sha256;
 use mem_plain::PlainMem;
 use rd_base::Memory;
 use rv_step::{Machine, advance, step, touches};
 use std::alloc::Global;
-use toy_rows::{Unanswered, add_part, bytes, hexadecimal_of};
+use toy_rows::{Unanswered, add_part, byte_of, bytes, number, number_of};
 
 /// A program to run.
 #[derive(Drop)]
@@ -56,23 +56,23 @@ fn machine_after(alloc: Global, program: &Program, steps: u32) -> Result<Machine
 /// The page that is stored to, if there is one.
 fn page(alloc: Global, page: Option<u32>) -> Result<String, Unanswered> {
     match page {
-        Some(page) => Ok(format!(in alloc; "{page:x}")?),
+        Some(page) => Ok(format!(in alloc; "0x{page:x}")?),
         None => Ok(String::from_str(alloc, "none")?),
     }
 }
 
-/// A register or a number of memory: `xNUMBER`, `byteADDRESS` or `wordADDRESS`.
+/// A register or a number of memory: `xNUMBER`, `byte@ADDRESS` or `word@ADDRESS`.
 fn place(alloc: Global, machine: &Machine, name: &str) -> Result<String, Unanswered> {
     let value = if let Some(number) = name.strip_prefix("x") {
-        let number = hexadecimal_of(number)?;
+        let number = byte_of(number)?;
         if number >= 32 {
             return Err(Unanswered::NoRow);
         }
-        machine.regs.get(number as u8)
-    } else if let Some(addr) = name.strip_prefix("byte") {
-        u32::from(machine.mem.byte(hexadecimal_of(addr)?))
-    } else if let Some(addr) = name.strip_prefix("word") {
-        let addr = hexadecimal_of(addr)?;
+        machine.regs.get(number)
+    } else if let Some(addr) = name.strip_prefix("byte@") {
+        u32::from(machine.mem.byte(number_of(addr)?))
+    } else if let Some(addr) = name.strip_prefix("word@") {
+        let addr = number_of(addr)?;
         if addr % 4 != 0 {
             return Err(Unanswered::NoRow);
         }
@@ -80,17 +80,17 @@ fn place(alloc: Global, machine: &Machine, name: &str) -> Result<String, Unanswe
     } else {
         return Err(Unanswered::NoRow);
     };
-    Ok(format!(in alloc; "{value:x}")?)
+    Ok(format!(in alloc; "0x{value:x}")?)
 }
 
 /// What a machine has by a name: a control field, the page that its next step stores to, its output, or a `place`.
 fn fact(alloc: Global, machine: &Machine, name: &str) -> Result<String, Unanswered> {
     match name {
         "status" => Ok(format!(in alloc; "{}", machine.ctl.status)?),
-        "pc" => Ok(format!(in alloc; "{:x}", machine.ctl.pc)?),
+        "pc" => Ok(format!(in alloc; "0x{:x}", machine.ctl.pc)?),
         "touches" => page(alloc, touches(machine)),
         "output" => written(alloc, machine.output.as_slice()),
-        "out_len" => Ok(format!(in alloc; "{:x}", machine.ctl.out_len)?),
+        "out_len" => Ok(format!(in alloc; "{}", machine.ctl.out_len)?),
         "chain" => written(alloc, machine.ctl.chain.0.as_slice()),
         _ => place(alloc, machine, name),
     }

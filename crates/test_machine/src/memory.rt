@@ -1,9 +1,9 @@
 //! Rows of a memory. There are two: rows speak of the first, and `copy` and `exchange` reach the other.
-use crate::words::{number, written};
+use crate::words::written;
 use mem_plain::PlainMem;
 use std::alloc::Global;
 use std::mem::{replace, swap};
-use toy_rows::{Unanswered, bytes};
+use toy_rows::{Unanswered, bytes, number};
 
 /// The two memories.
 #[derive(Drop)]
@@ -44,7 +44,7 @@ pub fn store(alloc: Global, mem: &mut PlainMem, words: &[&str]) -> Result<String
 /// `byte ADDRESS`.
 pub fn byte(alloc: Global, mem: &PlainMem, words: &[&str]) -> Result<String, Unanswered> {
     let byte = mem.byte(number(words, 1)?);
-    Ok(format!(in alloc; "{byte:02x}")?)
+    Ok(format!(in alloc; "0x{byte:02x}")?)
 }
 
 /// `half ADDRESS`.
@@ -54,7 +54,7 @@ pub fn half(alloc: Global, mem: &PlainMem, words: &[&str]) -> Result<String, Una
         return Err(Unanswered::NoRow);
     }
     let half = mem.half(addr);
-    Ok(format!(in alloc; "{half:04x}")?)
+    Ok(format!(in alloc; "0x{half:04x}")?)
 }
 
 /// `word ADDRESS`.
@@ -64,7 +64,7 @@ pub fn word(alloc: Global, mem: &PlainMem, words: &[&str]) -> Result<String, Una
         return Err(Unanswered::NoRow);
     }
     let word = mem.word(addr);
-    Ok(format!(in alloc; "{word:08x}")?)
+    Ok(format!(in alloc; "0x{word:08x}")?)
 }
 
 /// `chunk INDEX`.
@@ -79,7 +79,7 @@ pub fn chunk(alloc: Global, mem: &PlainMem, words: &[&str]) -> Result<String, Un
 /// `next_page FROM`.
 pub fn next_page(alloc: Global, mem: &PlainMem, words: &[&str]) -> Result<String, Unanswered> {
     match mem.next_page(number(words, 1)?) {
-        Some(page) => Ok(format!(in alloc; "{page:x}")?),
+        Some(page) => Ok(format!(in alloc; "0x{page:x}")?),
         None => Ok(String::from_str(alloc, "none")?),
     }
 }

@@ -7,12 +7,13 @@ use std::alloc::Global;
 use std::thread::Threads;
 use toy_rows::{Table, Unanswered, bytes, parts_of, word};
 
-/// What rows speak of: two memories, a program and a file.
+/// What rows speak of: two memories, a program, a file, and the operands of a word.
 #[derive(Drop)]
 pub struct Subject {
     memories: Memories,
     program: Program,
     file: Vec<u8>,
+    operands: String,
 }
 
 /// The answer to a row that reads the first memory.
@@ -76,11 +77,16 @@ fn of_machines(alloc: Global, program: &Program, words: &[&str]) -> Result<Strin
 }
 
 /// The answer to a row that speaks of nothing that is kept, or to one of `of_machines`.
-fn of_words(alloc: Global, program: &Program, words: &[&str]) -> Result<String, Unanswered> {
+fn of_words(
+    alloc: Global,
+    program: &Program,
+    operands: &str,
+    words: &[&str],
+) -> Result<String, Unanswered> {
     match word(words, 0)? {
         "decode" => decoding::reading(alloc, words, false),
         "listed" => decoding::reading(alloc, words, true),
-        "x3" => decoding::results(alloc, words),
+        "x3" => decoding::results(alloc, operands, words),
         "x3_loaded" => decoding::loads(alloc, words),
         "fault" => images::fault(alloc, words),
         _ => of_machines(alloc, program, words),
@@ -93,7 +99,7 @@ fn answer_to_call(
     subject: &mut Subject,
     words: &[&str],
 ) -> Result<String, Unanswered> {
-    match of_words(alloc, &subject.program, words) {
+    match of_words(alloc, &subject.program, subject.operands.as_str(), words) {
         Err(Unanswered::NoRow) => {
             of_images(alloc, &mut subject.memories, subject.file.as_slice(), words)
         }
@@ -119,9 +125,25 @@ fn take_program(
     Ok(String::new(alloc))
 }
 
+/// `operands A,B ..`: the operands of the rows `x3` below.
+fn take_operands(alloc: Global, operands: &mut String, row: &str) -> Result<String, Unanswered> {
+    let Some(text) = row.strip_prefix("operands ") else {
+        return Err(Unanswered::NoRow);
+    };
+    let taken = String::from_str(alloc, text)?;
+    *operands = taken;
+    Ok(String::new(alloc))
+}
+
 /// The answer to a row that says of what the rows below it speak, or to one that calls.
-fn answer(alloc: Global, subject: &mut Subject, words: &[&str]) -> Result<String, Unanswered> {
+fn answer(
+    alloc: Global,
+    subject: &mut Subject,
+    row: &str,
+    words: &[&str],
+) -> Result<String, Unanswered> {
     match word(words, 0)? {
+        "operands" => take_operands(alloc, &mut subject.operands, row),
         "file" => take_file(alloc, &mut subject.file, words),
         "program" => take_program(alloc, &mut subject.program, words),
         _ => answer_to_call(alloc, subject, words),
@@ -136,11 +158,11 @@ impl Table for Subject {
         row: &str,
     ) -> Result<String, Unanswered> {
         let words = parts_of(alloc, row, ' ')?;
-        answer(alloc, self, words.as_slice())
+        answer(alloc, self, row, words.as_slice())
     }
 }
 
-/// What the first row speaks of: empty memories, program and file.
+/// What the first row speaks of: empty memories, program, file and operands.
 pub fn empty_subject(alloc: Global) -> Subject {
     Subject {
         memories: Memories {
@@ -153,5 +175,6 @@ pub fn empty_subject(alloc: Global) -> Subject {
             input: Vec::new(alloc),
         },
         file: Vec::new(alloc),
+        operands: String::new(alloc),
     }
 }

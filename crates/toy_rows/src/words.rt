@@ -65,11 +65,6 @@ pub fn word<'a>(words: &[&'a str], at: usize) -> Result<&'a str, Unanswered> {
     words.get(at).copied().ok_or(Unanswered::NoRow)
 }
 
-/// The number that a text writes in hexadecimal, without `0x`.
-pub fn hexadecimal_of(text: &str) -> Result<u32, Unanswered> {
-    u32::from_str_radix(text, 16).or(Err(Unanswered::NoRow))
-}
-
 /// The number that a text writes: in decimal, or in hexadecimal behind `0x`.
 pub fn long_of(text: &str) -> Result<u64, Unanswered> {
     let read = match text.strip_prefix("0x") {
