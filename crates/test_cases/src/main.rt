@@ -21,9 +21,14 @@ fn main(rt: HostRuntime) -> io::Result<ExitCode> {
     let mut base = Base {
         text: String::new(rt.alloc()),
     };
-    match answered(&rt, rt.alloc(), &mut source, &mut base) {
-        Ok(lines) => print!(rt; "{lines}")?,
-        Err(_) => return Ok(ExitCode::from(9)),
-    }
-    Ok(ExitCode::SUCCESS)
+    let Ok(table) = answered(&rt, rt.alloc(), &mut source, &mut base) else {
+        return Ok(ExitCode::from(9));
+    };
+    let lines = table.lines;
+    print!(rt; "{lines}")?;
+    Ok(if table.are_rows {
+        ExitCode::SUCCESS
+    } else {
+        ExitCode::FAILURE
+    })
 }

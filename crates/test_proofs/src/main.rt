@@ -25,9 +25,14 @@ use toy_rows::answered;
 fn main(rt: HostRuntime) -> io::Result<ExitCode> {
     let mut source = StdSource::new(rt.stdin());
     let mut subject = rows::empty_subject(rt.alloc());
-    match answered(&rt, rt.alloc(), &mut source, &mut subject) {
-        Ok(lines) => print!(rt; "{lines}")?,
-        Err(_) => return Ok(ExitCode::from(9)),
-    }
-    Ok(ExitCode::SUCCESS)
+    let Ok(table) = answered(&rt, rt.alloc(), &mut source, &mut subject) else {
+        return Ok(ExitCode::from(9));
+    };
+    let lines = table.lines;
+    print!(rt; "{lines}")?;
+    Ok(if table.are_rows {
+        ExitCode::SUCCESS
+    } else {
+        ExitCode::FAILURE
+    })
 }

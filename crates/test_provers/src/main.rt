@@ -37,9 +37,14 @@ fn main(rt: HostRuntime) -> io::Result<ExitCode> {
         input: Vec::new(rt.alloc()),
         pages: 0,
     };
-    match answered(&rt, rt.alloc(), &mut source, &mut program) {
-        Ok(lines) => print!(rt; "{lines}")?,
-        Err(_) => return Ok(ExitCode::from(9)),
-    }
-    Ok(ExitCode::SUCCESS)
+    let Ok(table) = answered(&rt, rt.alloc(), &mut source, &mut program) else {
+        return Ok(ExitCode::from(9));
+    };
+    let lines = table.lines;
+    print!(rt; "{lines}")?;
+    Ok(if table.are_rows {
+        ExitCode::SUCCESS
+    } else {
+        ExitCode::FAILURE
+    })
 }

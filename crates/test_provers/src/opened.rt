@@ -44,7 +44,7 @@ fn add_chunk(
         let is = climbs(index, &leaf_text(&opened.chunk), &opened.path.0, root);
         let [first, second, third, fourth, ..] = opened.chunk;
         let word = u32::from_le_bytes([first, second, third, fourth]);
-        text.push_str(format!(in alloc; ", {is}{name} {word:08x}")?.as_str())?;
+        text.push_str(format!(in alloc; ", {is}{name} 0x{word:08x}")?.as_str())?;
     }
     Ok(())
 }
@@ -72,7 +72,7 @@ fn add_registers(
     for (k, opened) in named.as_slice().iter().enumerate() {
         let reg = number(numbers, k)?;
         let is = climbs(reg, &register_text(opened.value), &opened.path.0, root);
-        text.push_str(format!(in alloc; ", {is}x{reg} {:x}", opened.value)?.as_str())?;
+        text.push_str(format!(in alloc; ", {is}x{reg} 0x{:x}", opened.value)?.as_str())?;
     }
     Ok(())
 }
