@@ -14,8 +14,8 @@ returns-in-Some-clause-nodes c = λ digest made.
     let nodes : c.deref.result.now ≡ tree.nodes.items = search rules in
     let heap = (subst (IsMadeTree digest) is (made (c.args.chunk / 128))).heap in
     let path : IsPath digest (leaf_of tree.chunks.items) 7 (c.args.chunk % 128) c.fill_heap_path.new.siblings =
-        subst (λ n. IsPath digest (leaf_of tree.chunks.items) n (c.args.chunk % 128) c.fill_heap_path.new.siblings) c.requires
-        (c.fill_heap_path.ensures.path digest (leaf_of tree.chunks.items) (subst (λ nodes. IsHeap digest nodes (length c.args.siblings.now) (leaf_of tree.chunks.items)) (sym nodes) (subst (λ n. IsHeap digest tree.nodes.items n (leaf_of tree.chunks.items)) (sym c.requires) heap))) in
+    subst (λ n. IsPath digest (leaf_of tree.chunks.items) n (c.args.chunk % 128) c.fill_heap_path.new.siblings) c.requires
+    (c.fill_heap_path.ensures.path digest (leaf_of tree.chunks.items) (subst (λ nodes. IsHeap digest nodes (length c.args.siblings.now) (leaf_of tree.chunks.items)) (sym nodes) (subst (λ n. IsHeap digest tree.nodes.items n (leaf_of tree.chunks.items)) (sym c.requires) heap))) in
     path-inside t c.args.chunk c.fill_heap_path.new.siblings c.heaps_are_trees.ensures.nodes digest tree is heap path
 
 pub returns-in-None-clause-nodes : goal.returns-in-None-clause-nodes
