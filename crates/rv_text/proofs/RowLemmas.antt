@@ -5,7 +5,11 @@ use Rattle.std.specs.Option.{option_or}
 use Rattle.std.proofs.lemmas.Bool.{and_parts, ltb-true}
 use Rattle.rv_text.specs.Operands.{slots_of}
 use Rattle.rv_text.specs.Rows.{Named, register_rows, multiply_rows, immediate_rows, memory_rows, branch_rows, other_rows, row_in, row_named, most_in}
+use Rattle.rv_text.specs.declared.form.Form.{Form}
 use Rattle.rv_text.specs.declared.row.Row.{Row}
+
+abbrev pub row_by : Form → ℕ → Row
+row_by form base = record { form = form; base = base }
 
 abbrev pub fits : Row → Bool
 fits r = nat_lt (r.base + most_in (slots_of r.form)) (2 ^ 32)

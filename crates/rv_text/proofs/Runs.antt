@@ -1,16 +1,17 @@
 -- Runs of characters at the head of a text.
 use Rattle.std.proofs.Common.{zero, suc, ◌<◌, ◌≤◌, ◌==◌, length, take, drop, get_or, ◌≡◌, ℕ, Bool, true, false, List, [], ◌∷◌, ◌++◌, refl, ap, ◌∙◌, sym, arith}
+use Rattle.std.specs.List.{list_all}
 use Rattle.std.proofs.lemmas.Bool.{false≢true}
 use Rattle.std.proofs.lemmas.List.{take-append-drop}
 use Rattle.std.proofs.lemmas.Bool.Decides.{nat_tests}
-use Rattle.rv_text.specs.Characters.{is_blank, is_of_operand, run, behind, skip, every, begins, is_empty}
+use Rattle.rv_text.specs.Characters.{is_blank, is_of_operand, run, behind, skip, begins, is_empty}
 
-pub run-append : (p : ℕ → Bool) (xs ys : List ℕ) → every p xs ≡ true → begins p ys ≡ false → run p (xs ++ ys) ≡ xs
+pub run-append : (p : ℕ → Bool) (xs ys : List ℕ) → list_all p xs ≡ true → begins p ys ≡ false → run p (xs ++ ys) ≡ xs
 run-append p [] [] h k = refl
 run-append p [] (y ∷ ys) h k = grind arith
 run-append p (x ∷ xs) ys h k = grind (arith, run-append p xs ys)
 
-pub behind-append : (p : ℕ → Bool) (xs ys : List ℕ) → every p xs ≡ true → begins p ys ≡ false → behind p (xs ++ ys) ≡ ys
+pub behind-append : (p : ℕ → Bool) (xs ys : List ℕ) → list_all p xs ≡ true → begins p ys ≡ false → behind p (xs ++ ys) ≡ ys
 behind-append p [] [] h k = refl
 behind-append p [] (y ∷ ys) h k = grind arith
 behind-append p (x ∷ xs) ys h k = grind (arith, behind-append p xs ys)
@@ -28,7 +29,7 @@ run-no_blank [] ys h = elim (false≢true h) [ ]
 run-no_blank (x ∷ xs) ys h = operand-no_blank x h
 
 -- every character is such if and only if nothing is behind the run
-pub every-behind : (p : ℕ → Bool) (xs : List ℕ) → every p xs ≡ is_empty (behind p xs)
+pub every-behind : (p : ℕ → Bool) (xs : List ℕ) → list_all p xs ≡ is_empty (behind p xs)
 every-behind p [] = refl
 every-behind p (x ∷ xs) = let rest = every-behind p xs in grind arith
 
@@ -43,7 +44,7 @@ pub record Splits (p : ℕ → Bool) (xs : List ℕ) (n : ℕ) : Type 0 where
   pub taken : take n xs ≡ run p xs
   pub left : drop n xs ≡ behind p xs
 
-pub splits : (p : ℕ → Bool) (xs : List ℕ) (n : ℕ) → every p (take n xs) ≡ true → begins p (drop n xs) ≡ false → Splits p xs n
+pub splits : (p : ℕ → Bool) (xs : List ℕ) (n : ℕ) → list_all p (take n xs) ≡ true → begins p (drop n xs) ≡ false → Splits p xs n
 splits p xs n h k = record {
   taken = sym (ap (run p) (sym (take-append-drop n xs)) ∙ run-append p (take n xs) (drop n xs) h k);
   left = sym (ap (behind p) (sym (take-append-drop n xs)) ∙ behind-append p (take n xs) (drop n xs) h k);

@@ -47,11 +47,10 @@ abbrev pub with_label : Names → Option (List ℕ) → ℕ → Result Names Fau
 with_label names (Some name) place = if is_some (names name) then Err DefinedTwice else Ok (with_name names name place)
 with_label names None place = Ok names
 
-abbrev pub after_code : Pass → List ℕ → Result Pass FaultKind
-after_code p code = word_in near (statement_in code) >>= λ w. with_label p.names (label_in code) p.place >>= λ names. Ok (pass names (place_after p.place w))
-
 abbrev pub after_line : Pass → List ℕ → Result Pass FaultKind
-after_line p line = after_code p (code_in line)
+after_line p line =
+    word_in near (statement_in (code_in line)) >>= λ w. with_label p.names (label_in (code_in line)) p.place >>= λ names.
+    Ok (pass names (place_after p.place w))
 
 abbrev pub first_pass : ℕ → Pass → List (List ℕ) → Result Pass AsmFault
 first_pass n p [] = Ok p

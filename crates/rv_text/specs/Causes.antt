@@ -5,11 +5,9 @@ use Rattle.rv_text.specs.Characters.{is_blank, skip, is_empty, begins, is_name}
 use Rattle.rv_text.specs.Numbers.{number_of_text, register_of_text}
 use Rattle.rv_text.specs.Fields.{is_in, is_register, is_target}
 use Rattle.rv_text.specs.Faults.{number_of_kind}
-use Rattle.rv_text.specs.Operands.{Distances, slots_of, field_of, after_slot, next_operand, after_operand, has_none}
+use Rattle.rv_text.specs.Operands.{Distances, slots_of, field_of, after_slot, next_operand, after_operand}
 use Rattle.rv_text.specs.Rows.{row_named}
 use Rattle.rv_text.specs.Lines.{first_word, after_first_word}
-use Rattle.rv_text.specs.Unknown.{HasUnknownMnemonic}
-use Rattle.rv_text.specs.Later.{Follows}
 use Rattle.rv_text.specs.declared.row.Row.{Row}
 use Rattle.rv_text.specs.declared.field.Field.{Field}
 use Rattle.rv_text.specs.declared.form.Slot.{Slot}
@@ -45,7 +43,20 @@ pub record IsUndefined (distances : Distances) (f : Field) (operand : List ℕ) 
   pub is_a_name : is_name operand ≡ true
   pub is_undefined : distances operand ≡ None
 
+-- a name in a target's place whose distance is out of range
+pub record IsFar (distances : Distances) (f : Field) (operand : List ℕ) : Type 0 where
+  pub of_target : is_target f ≡ true
+  pub is_a_name : is_name operand ≡ true
+  pub distance : ℤ
+  pub is_distance : distances operand ≡ Some distance
+  pub is_far : is_in f distance ≡ false
+
 -- ALL OPERANDS
+
+-- what follows a mark is such, and the mark comes next
+abbrev pub Follows : Option (List ℕ) → (List ℕ → Type 0) → Type 0
+Follows (Some rest) is_such = is_such rest
+Follows None is_such = ⊥
 
 -- some operand of a text, in the place of its field, is such
 abbrev pub SomeOperand : (Field → List ℕ → Type 0) → List Slot → List ℕ → Type 0
@@ -75,10 +86,15 @@ pub record HasFaultyOperand (is_faulty : Field → List ℕ → Type 0) (text : 
   pub has_mnemonic : HasMnemonic text row
   pub operand : SomeOperand is_faulty (slots_of row.form) (after_first_word text)
 
+-- it begins with a run of letters, digits, `.` and `_` that is no mnemonic
+pub record HasUnknownMnemonic (text : List ℕ) : Type 0 where
+  pub is_there : is_empty (first_word text) ≡ false
+  pub is_unknown : row_named (first_word text) ≡ None
+
 -- it begins with no run of letters, digits, `.` and `_`, or no blank follows a mnemonic that takes operands, or these have another form
 pub data HasOtherForm (text : List ℕ) : Type 0 where
   no_word : is_empty text ≡ false → is_empty (first_word text) ≡ true → HasOtherForm text
-  no_blank : (row : Row) → HasMnemonic text row → (has_none (slots_of row.form) || begins is_blank (after_first_word text)) ≡ false → HasOtherForm text
+  no_blank : (row : Row) → HasMnemonic text row → (is_empty (slots_of row.form) || begins is_blank (after_first_word text)) ≡ false → HasOtherForm text
   other_operands : (row : Row) → HasMnemonic text row → HasOtherOperands (slots_of row.form) (after_first_word text) → HasOtherForm text
 
 -- a statement has this fault, perhaps beside others; that a name is defined twice is a fault of its label

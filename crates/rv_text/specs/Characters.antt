@@ -1,5 +1,6 @@
 -- To believe: characters of a text and runs of them, names, and lines.
 use Rattle.std.specs.Prelude.{ℕ, ◌==◌, ◌&&◌, ◌||◌, Bool, true, false, if◌then◌else◌, List, [], ◌∷◌}
+use Rattle.std.specs.List.{list_all}
 use Rattle.std.specs.Char.{is_ascii_alphabetic, is_ascii_alphanumeric}
 
 -- space and tab
@@ -43,30 +44,20 @@ behind p (c ∷ cs) = if p c then behind p cs else c ∷ cs
 abbrev pub skip : List ℕ → List ℕ
 skip text = behind is_blank text
 
--- whether there is no character
-abbrev pub is_empty : List ℕ → Bool
+-- whether a list has no elements, as a text no characters
+abbrev pub is_empty : {A : Type 0} → List A → Bool
 is_empty [] = true
-is_empty (c ∷ cs) = false
+is_empty (x ∷ xs) = false
 
 -- whether the first character is such
 abbrev pub begins : (ℕ → Bool) → List ℕ → Bool
 begins p [] = false
 begins p (c ∷ cs) = p c
 
--- whether each character is such
-abbrev pub every : (ℕ → Bool) → List ℕ → Bool
-every p [] = true
-every p (c ∷ cs) = p c && every p cs
-
--- the text without its first character
-abbrev pub tail : List ℕ → List ℕ
-tail [] = []
-tail (c ∷ cs) = cs
-
 -- a name: a letter or `_`, then letters, digits and `_`
 abbrev pub is_name : List ℕ → Bool
 is_name [] = false
-is_name (c ∷ cs) = (is_ascii_alphabetic c || (c == 95)) && every is_of_name cs
+is_name (c ∷ cs) = (is_ascii_alphabetic c || (c == 95)) && list_all is_of_name cs
 
 -- a character more in the first of these lines
 abbrev pub in_first : ℕ → List (List ℕ) → List (List ℕ)

@@ -13,8 +13,6 @@ pub mod Sums
 pub mod Spelling
 pub mod Listing
 pub mod Meaning
-pub mod Later
 pub mod Labels
-pub mod Unknown
 pub mod Causes
 pub mod LineFaults

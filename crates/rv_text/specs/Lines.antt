@@ -1,7 +1,7 @@
 -- To believe: the parts of a line, an optional label and then an optional statement.
-use Rattle.std.specs.Prelude.{ℕ, Bool, if◌then◌else◌, ◌&&◌, List, Option, Some, None, Result, Ok, Err}
+use Rattle.std.specs.Prelude.{ℕ, Bool, if◌then◌else◌, ◌&&◌, List, drop, Option, Some, None, Result, Ok, Err}
 use Rattle.rd_base.specs.Results.{◌>>=◌}
-use Rattle.rv_text.specs.Characters.{is_of_mnemonic, is_of_code, is_colon, run, behind, skip, is_empty, begins, is_name, tail}
+use Rattle.rv_text.specs.Characters.{is_of_mnemonic, is_of_code, is_colon, run, behind, skip, is_empty, begins, is_name}
 use Rattle.rv_text.specs.Operands.{Distances, slots_of, operands_of}
 use Rattle.rv_text.specs.Rows.{row_named, word_by}
 use Rattle.rv_text.specs.declared.row.Row.{Row}
@@ -28,7 +28,7 @@ label_in code = if has_label code then Some (first_word code) else None
 
 -- what is behind the label
 abbrev pub statement_in : List ℕ → List ℕ
-statement_in code = if has_label code then skip (tail (skip (after_first_word code))) else code
+statement_in code = if has_label code then skip (drop 1 (skip (after_first_word code))) else code
 
 -- the word of a row with the operands of a text
 abbrev pub word_of_row : Distances → Option Row → List ℕ → Result ℕ FaultKind

@@ -1,6 +1,8 @@
 -- To believe: the operands of a form, how they are read, and how they are written.
-use Rattle.std.specs.Prelude.{ℕ, zero, suc, ◌+◌, ◌/◌, ◌%◌, ◌==◌, ◌&&◌, ◌||◌, Bool, true, false, if◌then◌else◌, List, [], ◌∷◌, ◌++◌, ℤ, unsigned_abs, Option, Some, None, option_map, Result, Ok, Err, nat_lt, decimal}
+use Rattle.std.specs.Prelude.{ℕ, zero, suc, ◌+◌, ◌/◌, ◌%◌, ◌==◌, ◌&&◌, ◌||◌, if◌then◌else◌, List, [], ◌∷◌, ◌++◌, ℤ, unsigned_abs, Option, Some, None, Result, Ok, Err, nat_lt, decimal}
+use Rattle.std.specs.Option.{ok_or}
 use Rattle.std.specs.Fmt.{signed_decimal}
+use Rattle.rd_base.specs.Results.{◌>>=◌}
 use Rattle.rv_text.specs.Characters.{is_blank, is_of_operand, run, behind, skip, is_empty, begins, is_name}
 use Rattle.rv_text.specs.Numbers.{number_of_text, register_of_text}
 use Rattle.rv_text.specs.Fields.{is_in, is_register, is_target}
@@ -48,35 +50,27 @@ Distances = List ℕ → Option ℤ
 abbrev pub ranged : Field → ℤ → Result ℤ FaultKind
 ranged f z = if is_in f z then Ok z else Err OutOfRange
 
-abbrev pub ranged_if_read : Field → Option ℤ → Result ℤ FaultKind
-ranged_if_read f (Some z) = ranged f z
-ranged_if_read f None = Err OtherForm
-
-abbrev pub ranged_if_defined : Field → Option ℤ → Result ℤ FaultKind
-ranged_if_defined f (Some z) = ranged f z
-ranged_if_defined f None = Err Undefined
-
-abbrev pub registered : Option ℤ → Result ℤ FaultKind
-registered (Some z) = Ok z
-registered None = Err NoRegister
+-- one that is there, or else this fault
+abbrev pub ranged_or : FaultKind → Field → Option ℤ → Result ℤ FaultKind
+ranged_or missing f o = ok_or o missing >>= ranged f
 
 -- any name may be in a register's place, and is a fault of its own if it is no register
 abbrev pub registered_in : List ℕ → Result ℤ FaultKind
-registered_in text = if is_name text then registered (register_of_text text) else Err OtherForm
+registered_in text = if is_name text then ok_or (register_of_text text) NoRegister else Err OtherForm
 
 -- the value of an operand
 abbrev pub operand_in : Distances → Field → List ℕ → Result ℤ FaultKind
 operand_in distances f text =
     if is_register f then registered_in text
-    else if is_target f && is_name text then ranged_if_defined f (distances text)
-    else ranged_if_read f (number_of_text text)
+    else if is_target f && is_name text then ranged_or Undefined f (distances text)
+    else ranged_or OtherForm f (number_of_text text)
 
--- a value and those behind it, or the fault that counts
-abbrev pub both : Result ℤ FaultKind → Result (List ℤ) FaultKind → Result (List ℤ) FaultKind
-both (Ok z) (Ok zs) = Ok (z ∷ zs)
-both (Ok z) (Err k) = Err k
-both (Err j) (Ok zs) = Err j
-both (Err j) (Err k) = Err (earlier j k)
+-- what two values come to, or the fault that counts
+abbrev pub both : {A B C : Type 0} → (A → B → C) → Result A FaultKind → Result B FaultKind → Result C FaultKind
+both f (Ok x) (Ok y) = Ok (f x y)
+both f (Ok x) (Err k) = Err k
+both f (Err j) (Ok y) = Err j
+both f (Err j) (Err k) = Err (earlier j k)
 
 -- what follows a mark, if the mark comes next
 abbrev pub after_mark : Mark → List ℕ → Option (List ℕ)
@@ -88,10 +82,6 @@ abbrev pub after_slot : Slot → List ℕ → Option (List ℕ)
 after_slot (Last f) text = Some text
 after_slot (UpTo f mark) text = after_mark mark text
 
-abbrev pub or_other_form : Option (Result (List ℤ) FaultKind) → Result (List ℤ) FaultKind
-or_other_form (Some values) = values
-or_other_form None = Err OtherForm
-
 -- the characters of the next operand, and what follows them
 abbrev pub next_operand : List ℕ → List ℕ
 next_operand text = run is_of_operand (skip text)
@@ -102,16 +92,12 @@ after_operand text = skip (behind is_of_operand (skip text))
 -- the values of all operands
 abbrev pub operands_in : Distances → List Slot → List ℕ → Result (List ℤ) FaultKind
 operands_in distances [] text = if is_empty (skip text) then Ok [] else Err OtherForm
-operands_in distances (s ∷ slots) text = both (operand_in distances (field_of s) (next_operand text)) (or_other_form (option_map (λ rest. operands_in distances slots rest) (after_slot s (after_operand text))))
-
--- whether a form has no operands
-abbrev pub has_none : List Slot → Bool
-has_none [] = true
-has_none (s ∷ slots) = false
+operands_in distances (s ∷ slots) text =
+    both ◌∷◌ (operand_in distances (field_of s) (next_operand text)) (ok_or (after_slot s (after_operand text)) OtherForm >>= λ rest. operands_in distances slots rest)
 
 -- a blank comes before the operands, if there are any
 abbrev pub operands_of : Distances → List Slot → List ℕ → Result (List ℤ) FaultKind
-operands_of distances slots text = if has_none slots || begins is_blank text then operands_in distances slots text else Err OtherForm
+operands_of distances slots text = if is_empty slots || begins is_blank text then operands_in distances slots text else Err OtherForm
 
 -- WRITING
 

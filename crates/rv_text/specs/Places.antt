@@ -1,9 +1,10 @@
 -- Derived: the names in the code's map.
-use Rattle.std.specs.Prelude.{ℕ, List, Result, Ok, Err}
+use Rattle.std.specs.Prelude.{ℕ, List, Result, Ok}
 use Rattle.std.specs.BTreeMap.{BTreeMap, get_by}
 use denote.Ref.{Bor}
 use Rattle.std.specs.Cmp.Lexicographic.{slice_cmp}
 use Rattle.std.specs.Ordering.{nat_cmp}
+use Rattle.rd_base.specs.Results.{◌>>=◌}
 use Rattle.rv_text.specs.Operands.{Distances}
 use Rattle.rv_text.specs.Assembly.{Pass, Names, near, distances_from}
 use Rattle.rv_text.specs.Faults.{fault}
@@ -29,5 +30,4 @@ error_in line lines.Memory = errors.Memory
 
 -- the names after a pass
 abbrev pub names_of : Result Pass AsmFault → Result Names AsmFault
-names_of (Ok p) = Ok p.names
-names_of (Err e) = Err e
+names_of r = r >>= λ p. Ok p.names

@@ -14,53 +14,50 @@ pub record Named : Type 0 where
   pub name : List ℕ
   pub row : Row
 
-abbrev pub row : Form → ℕ → Row
-row form base = record { form = form; base = base }
-
-abbrev pub named_row : List ℕ → Row → Named
-named_row name row = record { name = name; row = row }
+abbrev pub row : List ℕ → Form → ℕ → Named
+row name form base = record { name = name; row = record { form = form; base = base } }
 
 -- RV32I: integer register-register operations (2.4)
 abbrev pub register_rows : List Named
 register_rows =
-    named_row (codes "add") (row Registers 0x00000033) ∷ named_row (codes "sub") (row Registers 0x40000033) ∷ named_row (codes "sll") (row Registers 0x00001033)
-    ∷ named_row (codes "slt") (row Registers 0x00002033) ∷ named_row (codes "sltu") (row Registers 0x00003033) ∷ named_row (codes "xor") (row Registers 0x00004033)
-    ∷ named_row (codes "srl") (row Registers 0x00005033) ∷ named_row (codes "sra") (row Registers 0x40005033) ∷ named_row (codes "or") (row Registers 0x00006033)
-    ∷ named_row (codes "and") (row Registers 0x00007033) ∷ []
+    row (codes "add") Registers 0x00000033 ∷ row (codes "sub") Registers 0x40000033 ∷ row (codes "sll") Registers 0x00001033
+    ∷ row (codes "slt") Registers 0x00002033 ∷ row (codes "sltu") Registers 0x00003033 ∷ row (codes "xor") Registers 0x00004033
+    ∷ row (codes "srl") Registers 0x00005033 ∷ row (codes "sra") Registers 0x40005033 ∷ row (codes "or") Registers 0x00006033
+    ∷ row (codes "and") Registers 0x00007033 ∷ []
 
 -- RV32M (7.1 and 7.2)
 abbrev pub multiply_rows : List Named
 multiply_rows =
-    named_row (codes "mul") (row Registers 0x02000033) ∷ named_row (codes "mulh") (row Registers 0x02001033) ∷ named_row (codes "mulhsu") (row Registers 0x02002033)
-    ∷ named_row (codes "mulhu") (row Registers 0x02003033) ∷ named_row (codes "div") (row Registers 0x02004033) ∷ named_row (codes "divu") (row Registers 0x02005033)
-    ∷ named_row (codes "rem") (row Registers 0x02006033) ∷ named_row (codes "remu") (row Registers 0x02007033) ∷ []
+    row (codes "mul") Registers 0x02000033 ∷ row (codes "mulh") Registers 0x02001033 ∷ row (codes "mulhsu") Registers 0x02002033
+    ∷ row (codes "mulhu") Registers 0x02003033 ∷ row (codes "div") Registers 0x02004033 ∷ row (codes "divu") Registers 0x02005033
+    ∷ row (codes "rem") Registers 0x02006033 ∷ row (codes "remu") Registers 0x02007033 ∷ []
 
 -- integer register-immediate instructions (2.4)
 abbrev pub immediate_rows : List Named
 immediate_rows =
-    named_row (codes "addi") (row Immediate 0x00000013) ∷ named_row (codes "slti") (row Immediate 0x00002013) ∷ named_row (codes "sltiu") (row Immediate 0x00003013)
-    ∷ named_row (codes "xori") (row Immediate 0x00004013) ∷ named_row (codes "ori") (row Immediate 0x00006013) ∷ named_row (codes "andi") (row Immediate 0x00007013)
-    ∷ named_row (codes "slli") (row Shift 0x00001013) ∷ named_row (codes "srli") (row Shift 0x00005013) ∷ named_row (codes "srai") (row Shift 0x40005013) ∷ []
+    row (codes "addi") Immediate 0x00000013 ∷ row (codes "slti") Immediate 0x00002013 ∷ row (codes "sltiu") Immediate 0x00003013
+    ∷ row (codes "xori") Immediate 0x00004013 ∷ row (codes "ori") Immediate 0x00006013 ∷ row (codes "andi") Immediate 0x00007013
+    ∷ row (codes "slli") Shift 0x00001013 ∷ row (codes "srli") Shift 0x00005013 ∷ row (codes "srai") Shift 0x40005013 ∷ []
 
 -- loads, stores (2.6) and the jump to a register (2.5)
 abbrev pub memory_rows : List Named
 memory_rows =
-    named_row (codes "lb") (row Based 0x00000003) ∷ named_row (codes "lh") (row Based 0x00001003) ∷ named_row (codes "lw") (row Based 0x00002003)
-    ∷ named_row (codes "lbu") (row Based 0x00004003) ∷ named_row (codes "lhu") (row Based 0x00005003) ∷ named_row (codes "jalr") (row Based 0x00000067)
-    ∷ named_row (codes "sb") (row Store 0x00000023) ∷ named_row (codes "sh") (row Store 0x00001023) ∷ named_row (codes "sw") (row Store 0x00002023) ∷ []
+    row (codes "lb") Based 0x00000003 ∷ row (codes "lh") Based 0x00001003 ∷ row (codes "lw") Based 0x00002003
+    ∷ row (codes "lbu") Based 0x00004003 ∷ row (codes "lhu") Based 0x00005003 ∷ row (codes "jalr") Based 0x00000067
+    ∷ row (codes "sb") Store 0x00000023 ∷ row (codes "sh") Store 0x00001023 ∷ row (codes "sw") Store 0x00002023 ∷ []
 
 -- jumps and branches (2.5)
 abbrev pub branch_rows : List Named
 branch_rows =
-    named_row (codes "jal") (row Jump 0x0000006f) ∷ named_row (codes "beq") (row Branch 0x00000063) ∷ named_row (codes "bne") (row Branch 0x00001063)
-    ∷ named_row (codes "blt") (row Branch 0x00004063) ∷ named_row (codes "bge") (row Branch 0x00005063) ∷ named_row (codes "bltu") (row Branch 0x00006063)
-    ∷ named_row (codes "bgeu") (row Branch 0x00007063) ∷ []
+    row (codes "jal") Jump 0x0000006f ∷ row (codes "beq") Branch 0x00000063 ∷ row (codes "bne") Branch 0x00001063
+    ∷ row (codes "blt") Branch 0x00004063 ∷ row (codes "bge") Branch 0x00005063 ∷ row (codes "bltu") Branch 0x00006063
+    ∷ row (codes "bgeu") Branch 0x00007063 ∷ []
 
 -- upper immediates (2.4), the fence that orders everything (2.7), calls (2.8), and a word that is written as such
 abbrev pub other_rows : List Named
 other_rows =
-    named_row (codes "lui") (row Upper 0x00000037) ∷ named_row (codes "auipc") (row Upper 0x00000017) ∷ named_row (codes "fence") (row Alone 0x0ff0000f)
-    ∷ named_row (codes "ecall") (row Alone 0x00000073) ∷ named_row (codes "ebreak") (row Alone 0x00100073) ∷ named_row (codes ".word") (row Word 0x00000000) ∷ []
+    row (codes "lui") Upper 0x00000037 ∷ row (codes "auipc") Upper 0x00000017 ∷ row (codes "fence") Alone 0x0ff0000f
+    ∷ row (codes "ecall") Alone 0x00000073 ∷ row (codes "ebreak") Alone 0x00100073 ∷ row (codes ".word") Word 0x00000000 ∷ []
 
 -- the row of a name among these
 abbrev pub row_in : List ℕ → List Named → Option Row

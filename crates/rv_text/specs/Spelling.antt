@@ -1,5 +1,6 @@
 -- To believe: how an instruction is written, its mnemonic and the values of its operands in the order of its form.
-use Rattle.std.specs.Prelude.{ℕ, ◌/◌, ◌^◌, ◌==◌, Bool, true, false, if◌then◌else◌, List, [], ◌∷◌, ℤ, pos, Option, Some, None, codes}
+use Rattle.std.specs.Prelude.{ℕ, ◌/◌, ◌^◌, ◌==◌, Bool, true, false, if◌then◌else◌, List, [], ◌∷◌, ℤ, pos, codes}
+use Rattle.std.specs.Option.{option_map_or}
 use Rattle.rv_decode.specs.Bits.{twos_complement}
 use Rattle.rv_decode.specs.Word.{word_of}
 use Rattle.rv_decode.specs.Reading.{reading_of}
@@ -120,9 +121,5 @@ is_fence (Fence f) = true
 is_fence _ = false
 
 -- how a word is written, by what it reads as
-abbrev pub spelling_by : ℕ → Option Instr → Spelling
-spelling_by w (Some i) = spelling_of i
-spelling_by w None = raw w
-
 abbrev pub spelling_in : ℕ → Spelling
-spelling_in w = spelling_by w (reading_of w)
+spelling_in w = option_map_or spelling_of (reading_of w) (raw w)

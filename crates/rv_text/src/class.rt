@@ -1,6 +1,7 @@
 //! Runs of characters.
 ghost use Rattle.std.specs.Prelude.{◌≡◌};
-ghost use Rattle.rv_text.specs.Characters.{run, behind, every, skip as the_skip, is_name as the_is_name};
+ghost use Rattle.std.specs.List.{list_all};
+ghost use Rattle.rv_text.specs.Characters.{run, behind, skip as the_skip, is_name as the_is_name};
 ghost use Rattle.rv_text.specs.Classes.{is_of as the_is_of};
 
 /// A class of characters.
@@ -75,7 +76,7 @@ pub fn is_name(text: &[u8]) -> bool
 /// Whether all characters are of a class.
 #[tactic(auto, using(crate::proofs::Runs::every_rules))]
 pub fn is_every(text: &[u8], class: Class) -> bool
-    ensures { result ≡ every (the_is_of class) text.now }
+    ensures { result ≡ list_all (the_is_of class) text.now }
 {
     let (_, rest) = split_run(text, class);
     rest.is_empty()

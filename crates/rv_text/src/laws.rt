@@ -1,5 +1,5 @@
 //! Laws about the definitions, each a function that does nothing.
-ghost use Rattle.std.specs.Prelude.{◌≡◌, ◌<◌, ◌^◌, ◌↔◌, ℕ, List, Option, Ok, Err, Some};
+ghost use Rattle.std.specs.Prelude.{◌≡◌, ◌<◌, ◌^◌, ◌↔◌, ◌⊎◌, ℕ, List, Option, Ok, Err, Some};
 ghost use Rattle.rv_decode.specs.Word.{word_of};
 ghost use Rattle.rv_decode.specs.Reading.{reading_of};
 ghost use Rattle.rv_decode.specs.declared.instr.Instr.{Instr};
@@ -10,10 +10,8 @@ ghost use Rattle.rv_text.specs.Meaning.{IsSpelledBy, StandsForWord};
 ghost use Rattle.std.specs.List.{AllByRecursion};
 ghost use Rattle.rv_text.specs.Listing.{listing};
 ghost use Rattle.rv_text.specs.Assembly.{assembled, near, Pass, pass, no_names, first_pass};
-ghost use Rattle.rv_text.specs.Later.{OfName, HasUndefinedTarget, HasFarTarget};
 ghost use Rattle.rv_text.specs.Labels.{IsPlace};
-ghost use Rattle.rv_text.specs.Unknown.{HasUnknownMnemonic};
-ghost use Rattle.rv_text.specs.Causes.{HasFault, IsLeast};
+ghost use Rattle.rv_text.specs.Causes.{HasUnknownMnemonic, HasFaultyOperand, IsUndefined, IsFar, HasFault, IsLeast};
 ghost use Rattle.rv_text.specs.Characters.{source_lines};
 ghost use Rattle.rv_text.specs.LineFaults.{IsAssembled, IsFaultOf};
 ghost use Rattle.rv_text.specs.declared.fault.AsmFault.{AsmFault};
@@ -45,11 +43,11 @@ pub fn each_word_is_said()
 /// is out of range (`far`), or nothing defines it (`undefined`). Each comes if and only if it is so, as a statement has one target at most.
 pub fn only_names_fail_later()
     ensures of_name { (distances : Distances) (text : List ℕ) (w : Option ℕ) (k : FaultKind) → word_in near text ≡ Ok w →
-        word_in distances text ≡ Err k → OfName k }
+        word_in distances text ≡ Err k → (k ≡ FaultKind.Undefined) ⊎ (k ≡ FaultKind.OutOfRange) }
     ensures far { (distances : Distances) (text : List ℕ) (w : Option ℕ) → word_in near text ≡ Ok w →
-        (word_in distances text ≡ Err FaultKind.OutOfRange) ↔ HasFarTarget distances text }
+        (word_in distances text ≡ Err FaultKind.OutOfRange) ↔ HasFaultyOperand (IsFar distances) text }
     ensures undefined { (distances : Distances) (text : List ℕ) (w : Option ℕ) → word_in near text ≡ Ok w →
-        (word_in distances text ≡ Err FaultKind.Undefined) ↔ HasUndefinedTarget distances text }
+        (word_in distances text ≡ Err FaultKind.Undefined) ↔ HasFaultyOperand (IsUndefined distances) text }
 {}
 
 /// After a first pass without a fault each label stands for the place of the next word, four bytes for each word of the lines before it,

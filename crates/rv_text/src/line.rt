@@ -1,7 +1,7 @@
 //! A line: its label, and its statement.
 ghost use Rattle.std.specs.Prelude.{◌≡◌, ◌+◌, ◌<◌, ◌^◌, Some, option_map};
-ghost use Rattle.rv_text.specs.Characters.{begins, is_blank};
-ghost use Rattle.rv_text.specs.Operands.{slots_of as the_slots_of, has_none as the_has_none};
+ghost use Rattle.rv_text.specs.Characters.{begins, is_blank, is_empty};
+ghost use Rattle.rv_text.specs.Operands.{slots_of as the_slots_of};
 ghost use Rattle.rv_text.specs.Rows.{most_in};
 ghost use Rattle.rv_text.specs.Lines.{code_in as the_code_in, label_in, statement_in, word_of_row, word_of_statement, word_in as the_word_in};
 ghost use Rattle.rv_text.specs.Places.{distances_in};
@@ -76,7 +76,7 @@ fn row_word(row: Row, text: &[u8], scope: &Scope<'_, '_>) -> Result<u32, FaultKi
 
 /// Whether there are no slots.
 fn has_none(slots: &[Slot]) -> bool
-    ensures { result ≡ the_has_none slots.now }
+    ensures { result ≡ is_empty slots.now }
 {
     match slots {
         [] => true,

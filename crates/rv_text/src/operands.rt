@@ -1,12 +1,13 @@
 //! The operands of a line.
 ghost use Rattle.std.specs.Prelude.{◌≡◌, ◌<◌, ◌≤◌, ◌^◌, ◌+◌, true, IfOk, option_map};
+ghost use Rattle.rv_text.specs.declared.fault.FaultKind.TheVariants as FaultKind;
 ghost use Rattle.rv_text.specs.Fields.{most_at, is_in as the_is_in, is_register as the_is_register};
 ghost use Rattle.rv_text.specs.Numbers.{number_of_text};
 ghost use Rattle.rv_text.specs.Faults.{earlier as the_earlier};
-ghost use Rattle.rv_text.specs.Operands.{ranged as the_ranged, registered_in, ranged_if_defined, ranged_if_read as the_written, operand_in, operands_in, after_operand, next_operand, after_mark as the_after_mark, after_slot as the_after_slot};
+ghost use Rattle.rv_text.specs.Operands.{ranged as the_ranged, ranged_or, registered_in, both, operand_in, operands_in, after_operand, next_operand, after_mark as the_after_mark, after_slot as the_after_slot};
 ghost use Rattle.rv_text.specs.Rows.{most_in};
 ghost use Rattle.rv_text.specs.Places.{distances_in};
-ghost use Rattle.rv_text.specs.Sums.{bits_of, sum_of, sum_of_two as the_plus};
+ghost use Rattle.rv_text.specs.Sums.{bits_of, sum_of};
 
 use crate::class::{Class, is_name, skip, split_run};
 use crate::fault::FaultKind;
@@ -88,7 +89,7 @@ fn register_operand(field: Field, text: &[u8]) -> Result<i64, FaultKind>
 
 /// The value of a name that stands for a distance.
 fn target_operand(field: Field, name: &[u8], scope: &Scope<'_, '_>) -> Result<i64, FaultKind>
-    ensures value { result ≡ ranged_if_defined field (distances_in scope.now name.now) }
+    ensures value { result ≡ ranged_or FaultKind.Undefined field (distances_in scope.now name.now) }
     ensures in_range { IfOk result (λ z. the_is_in field z ≡ true) }
 {
     ranged(field, distance(scope, name).ok_or(FaultKind::Undefined)?)
@@ -97,7 +98,7 @@ fn target_operand(field: Field, name: &[u8], scope: &Scope<'_, '_>) -> Result<i6
 /// The value of a number's operand.
 #[tactic(auto, using(crate::proofs::digits::CappedLemmas::ranged_rules))]
 fn number_operand(field: Field, text: &[u8]) -> Result<i64, FaultKind>
-    ensures value { result ≡ the_written field (number_of_text text.now) }
+    ensures value { result ≡ ranged_or FaultKind.OtherForm field (number_of_text text.now) }
     ensures in_range { IfOk result (λ z. the_is_in field z ≡ true) }
 {
     written(field, number(text))
@@ -105,7 +106,7 @@ fn number_operand(field: Field, text: &[u8]) -> Result<i64, FaultKind>
 
 /// The value of a number, if there is one.
 fn written(field: Field, number: Option<i64>) -> Result<i64, FaultKind>
-    ensures value { result ≡ the_written field number }
+    ensures value { result ≡ ranged_or FaultKind.OtherForm field number }
     ensures in_range { IfOk result (λ z. the_is_in field z ≡ true) }
 {
     ranged(field, number.ok_or(FaultKind::OtherForm)?)
@@ -152,7 +153,7 @@ fn after_mark(mark: Mark, text: &[u8]) -> Option<&[u8]>
 /// The bits of two parts of the operands, or the fault that counts.
 fn plus(one: Result<u32, FaultKind>, other: Result<u32, FaultKind>) -> Result<u32, FaultKind>
     requires { IfOk one (λ m. IfOk other (λ n. m + n < 2 ^ 32)) }
-    ensures { result ≡ the_plus one other }
+    ensures { result ≡ both ◌+◌ one other }
 {
     match (one, other) {
         (Ok(m), Ok(n)) => Ok(m + n),

@@ -1,6 +1,6 @@
 //! The rows of the mnemonics.
 ghost use Rattle.std.specs.Prelude.{◌≡◌, ◌+◌, ◌<◌, ◌^◌, Some, IfSome};
-ghost use Rattle.rv_text.specs.Rows.{row as the_row, row_in, register_rows, multiply_rows, immediate_rows, memory_rows, branch_rows, other_rows, row_named as the_row_named, most_in};
+ghost use Rattle.rv_text.specs.Rows.{row_in, register_rows, multiply_rows, immediate_rows, memory_rows, branch_rows, other_rows, row_named as the_row_named, most_in};
 ghost use Rattle.rv_text.specs.Operands.{slots_of};
 
 use crate::form::Form;
@@ -140,7 +140,7 @@ fn multiply_row(name: &[u8]) -> Option<Row>
 
 /// The row with these parts.
 fn make_row(form: Form, base: u32) -> Option<Row>
-    ensures { result ≡ Some (the_row form base) }
+    ensures { result ≡ Some (record { form = form; base = base }) }
 {
     Some(Row { form, base })
 }

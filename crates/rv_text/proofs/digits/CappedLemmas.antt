@@ -9,9 +9,10 @@ use Rattle.std.specs.Prelude.{neg_ℤ}
 use Rattle.std.specs.Char.{digit_value}
 use Rattle.std.specs.Str.Parse.{digits_value_after}
 use Rattle.rv_text.specs.Capped.{capped, capped_integer}
-use Rattle.rv_text.specs.Operands.{ranged, ranged_if_read}
+use Rattle.rv_text.specs.Operands.{ranged_or, ranged}
 use Rattle.rv_text.specs.declared.field.Field.{Field}
 use Rattle.rv_text.specs.declared.field.Field.TheVariants.{Rd, Rs1, Rs2, Immediate, Shift, StoreOffset, BranchTarget, JumpTarget, Upper, Word}
+use Rattle.rv_text.specs.declared.fault.FaultKind.TheVariants.{OtherForm}
 
 pub capped-twice : (n : ℕ) → capped (capped n) ≡ capped n
 capped-twice n = grind (arith, nat_tests)
@@ -94,7 +95,7 @@ pub ranged-capped : (f : Field) (z : ℤ) → ranged f (capped_integer z) ≡ ra
 ranged-capped f (pos n) = ranged-natural f n
 ranged-capped f (negsuc n) = ranged-negative f n
 
-pub written-capped : (f : Field) (o : Option ℤ) → ranged_if_read f (option_map capped_integer o) ≡ ranged_if_read f o
+pub written-capped : (f : Field) (o : Option ℤ) → (ranged_or OtherForm f (option_map capped_integer o)) ≡ (ranged_or OtherForm f o)
 written-capped f None = refl
 written-capped f (Some z) = ranged-capped f z
 

@@ -1,5 +1,6 @@
 -- Hexadecimal digits are read back.
 use Rattle.std.proofs.Common.{◌≡◌, ℕ, zero, suc, ◌+◌, ◌-◌, ◌*◌, ◌/◌, ◌%◌, ◌^◌, ◌<◌, ◌≤◌, ◌==◌, Bool, true, false, List, [], ◌∷◌, ◌++◌, length, refl, ap, sym, ◌∙◌, arith, Some, pow-suc, length-append, append_assoc}
+use Rattle.std.specs.List.{list_all}
 use Rattle.std.specs.Prelude.{if◌then◌else◌, replicate}
 use Rattle.std.proofs.lemmas.Bool.{eqb-true, eqb-false}
 use Rattle.std.proofs.lemmas.Bool.Decides.{nat_tests}
@@ -7,7 +8,7 @@ use Rattle.std.proofs.lemmas.List.{append-nil}
 use Rattle.std.specs.Fmt.{char_count, digit_glyph, digits, digits_onto, format_spec, padded_integral}
 use Rattle.std.specs.Char.{digit_value, is_ascii_hexdigit}
 use Rattle.std.specs.Str.Parse.{digits_value, digits_value_after}
-use Rattle.rv_text.specs.Characters.{is_of_operand, every}
+use Rattle.rv_text.specs.Characters.{is_of_operand}
 use Rattle.rv_text.specs.Numbers.{hex_of_text}
 use Rattle.rv_text.specs.Operands.{hex_digit, hex_digits}
 
@@ -32,16 +33,16 @@ hex-value (suc k) n h =
     let low = digit-value (n % 16) (omega arith) in
     hex-append 0 (hex_digits k (n / 16)) (hex_digit (n % 16)) ∙ rw (high, low) (omega arith)
 
-every-append : (p : ℕ → Bool) (xs : List ℕ) (c : ℕ) → every p xs ≡ true → p c ≡ true → every p (xs ++ c ∷ []) ≡ true
+every-append : (p : ℕ → Bool) (xs : List ℕ) (c : ℕ) → list_all p xs ≡ true → p c ≡ true → list_all p (xs ++ c ∷ []) ≡ true
 every-append p [] c h k = grind arith
 every-append p (x ∷ xs) c h k = grind (arith, every-append p xs c)
 
-hex-digits_hex : (k n : ℕ) → every is_ascii_hexdigit (hex_digits k n) ≡ true
+hex-digits_hex : (k n : ℕ) → list_all is_ascii_hexdigit (hex_digits k n) ≡ true
 unfolding hex_digits
 hex-digits_hex zero n = refl
 hex-digits_hex (suc k) n = every-append is_ascii_hexdigit (hex_digits k (n / 16)) (hex_digit (n % 16)) (hex-digits_hex k (n / 16)) (digit-hex (n % 16) (omega arith))
 
-pub hex-digits_operand : (k n : ℕ) → every is_of_operand (hex_digits k n) ≡ true
+pub hex-digits_operand : (k n : ℕ) → list_all is_of_operand (hex_digits k n) ≡ true
 unfolding hex_digits
 hex-digits_operand zero n = refl
 hex-digits_operand (suc k) n = every-append is_of_operand (hex_digits k (n / 16)) (hex_digit (n % 16)) (hex-digits_operand k (n / 16)) (digit-operand (n % 16) (omega arith))
@@ -51,7 +52,7 @@ unfolding hex_digits
 hex-length zero n = refl
 hex-length (suc k) n = grind (arith, length-append, hex-length k (n / 16))
 
-hex-in_list : (ds : List ℕ) → 0 < length ds → every is_ascii_hexdigit ds ≡ true → hex_of_text ds ≡ Some (digits_value 16 ds)
+hex-in_list : (ds : List ℕ) → 0 < length ds → list_all is_ascii_hexdigit ds ≡ true → hex_of_text ds ≡ Some (digits_value 16 ds)
 hex-in_list [] l h = let never : ⊥ = omega arith in elim never [ ]
 hex-in_list (c ∷ cs) l h = rw h refl
 

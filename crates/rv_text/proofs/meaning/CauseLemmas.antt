@@ -1,5 +1,5 @@
 -- The fault of a statement is the one with the least number among those that it has.
-use Rattle.std.proofs.Common.{◌≡◌, ℕ, ◌≤◌, Bool, true, false, List, [], ◌∷◌, refl, ap, ◌∙◌, sym, subst, arith, ℤ, Option, Some, None, option_map, Result, Ok, Err, ◌⊎◌, inl, inr, ⊎_elim}
+use Rattle.std.proofs.Common.{◌≡◌, ℕ, ◌≤◌, Bool, true, false, List, [], ◌∷◌, refl, ap, ◌∙◌, sym, subst, arith, ℤ, Option, Some, None, Result, Ok, Err, ◌⊎◌, inl, inr, ⊎_elim}
 use Rattle.std.proofs.lemmas.Bool.{true≢false, false≢true, and_parts, ltb-true, ltb-false}
 use Rattle.std.specs.Prelude.{◌↔◌, ◌==◌, ◌&&◌, ◌||◌, if◌then◌else◌, nat_lt}
 use Rattle.rd_base.specs.Results.{◌>>=◌}
@@ -7,17 +7,17 @@ use Rattle.rv_text.specs.Characters.{is_blank, skip, is_empty, begins, is_name}
 use Rattle.rv_text.specs.Numbers.{number_of_text, register_of_text}
 use Rattle.rv_text.specs.Fields.{is_in, is_register, is_target}
 use Rattle.rv_text.specs.Faults.{number_of_kind}
-use Rattle.rv_text.specs.Operands.{Distances, slots_of, field_of, ranged_if_read, ranged_if_defined, registered, registered_in, operand_in, both, after_slot, or_other_form, operands_in, operands_of, next_operand, after_operand, has_none}
+use Rattle.rv_text.specs.Operands.{ranged_or, Distances, slots_of, field_of, registered_in, operand_in, both, after_slot, operands_in, operands_of, next_operand, after_operand}
 use Rattle.rv_text.specs.Rows.{row_named, word_by}
 use Rattle.rv_text.specs.Lines.{first_word, after_first_word, word_of_row, word_of_statement, word_in}
-use Rattle.rv_text.specs.Unknown.{HasUnknownMnemonic}
-use Rattle.rv_text.specs.Causes.{may_stand, stands_for, IsUnknownRegister, IsOutside, IsUndefined, SomeOperand, HasOtherOperands, HasMnemonic, HasFaultyOperand, HasOtherForm, no_word, no_blank, other_operands, HasFault, IsLeast}
+use Rattle.rv_text.specs.Causes.{may_stand, stands_for, IsUnknownRegister, IsOutside, IsUndefined, SomeOperand, HasOtherOperands, HasMnemonic, HasFaultyOperand, HasOtherForm, no_word, no_blank, other_operands, HasFault, IsLeast, HasUnknownMnemonic}
 use Rattle.rv_text.specs.declared.row.Row.{Row}
 use Rattle.rv_text.specs.declared.field.Field.{Field}
 use Rattle.rv_text.specs.declared.field.Field.TheVariants.{Rd, Rs1, Rs2, Immediate, Shift, StoreOffset, BranchTarget, JumpTarget, Upper, Word}
 use Rattle.rv_text.specs.declared.form.Slot.{Slot}
 use Rattle.rv_text.specs.declared.fault.FaultKind.{FaultKind}
 use Rattle.rv_text.specs.declared.fault.FaultKind.TheVariants.{OtherForm, UnknownMnemonic, NoRegister, OutOfRange, Undefined, DefinedTwice}
+use Rattle.std.specs.Option.{ok_or}
 
 -- ---- kinds
 kind_of : ℕ → FaultKind
@@ -109,7 +109,7 @@ earlier-least H G j k h g false e = record {
   is_least = λ i there. ⊎_elim (λ a. h.is_least i a) (λ b. omega (arith, ltb-false _ _ e, g.is_least i b)) there;
 }
 
-both-judged : (H G : FaultKind → Type 0) (r : Result ℤ FaultKind) (s : Result (List ℤ) FaultKind) → Judged H r → Judged G s → Judged (λ k. H k ⊎ G k) (both r s)
+both-judged : (H G : FaultKind → Type 0) (r : Result ℤ FaultKind) (s : Result (List ℤ) FaultKind) → Judged H r → Judged G s → Judged (λ k. H k ⊎ G k) (both ◌∷◌ r s)
 both-judged H G (Ok z) (Ok zs) h g = λ k there. ⊎_elim (h k) (g k) there
 both-judged H G (Ok z) (Err k) h g = record { is_there = inr g.is_there; is_least = λ j there. ⊎_elim (λ a. absurd (h j a)) (λ b. g.is_least j b) there }
 both-judged H G (Err j) (Ok zs) h g = record { is_there = inl h.is_there; is_least = λ i there. ⊎_elim (λ a. h.is_least i a) (λ b. absurd (g i b)) there }
@@ -143,7 +143,7 @@ module _ (d : Distances) (f : Field) (x : List ℕ) where
   no-undefined_register : is_register f ≡ true → IsUndefined d f x → ⊥
   no-undefined_register r h = target-no_register f h.of_target r
 
-  registered-judged : is_register f ≡ true → (n : Bool) → is_name x ≡ n → (o : Option ℤ) → register_of_text x ≡ o → Judged (IsCause d f x) (if n then registered o else Err OtherForm)
+  registered-judged : is_register f ≡ true → (n : Bool) → is_name x ≡ n → (o : Option ℤ) → register_of_text x ≡ o → Judged (IsCause d f x) (if n then ok_or o NoRegister else Err OtherForm)
   unfolding IsCause
   registered-judged r true n (Some z) o =
       none-of_six (IsCause d f x)
@@ -159,7 +159,7 @@ module _ (d : Distances) (f : Field) (x : List ℕ) where
     is_least = from-1 (IsCause d f x);
   }
 
-  distant-judged : is_register f ≡ false → (is_target f && is_name x) ≡ true → (o : Option ℤ) → d x ≡ o → Judged (IsCause d f x) (ranged_if_defined f o)
+  distant-judged : is_register f ≡ false → (is_target f && is_name x) ≡ true → (o : Option ℤ) → d x ≡ o → Judged (IsCause d f x) (ranged_or Undefined f o)
   unfolding IsCause
   distant-judged r t (Some z) o = ranged-at (is_in f z) refl
     where
@@ -189,7 +189,7 @@ module _ (d : Distances) (f : Field) (x : List ℕ) where
             (λ h. let none : stands_for d f x ≡ None = rw t o in let known : None ≡ Some h.number = sym none ∙ h.stands in absurd cc);
       }
 
-  written-judged : is_register f ≡ false → (is_target f && is_name x) ≡ false → (o : Option ℤ) → number_of_text x ≡ o → Judged (IsCause d f x) (ranged_if_read f o)
+  written-judged : is_register f ≡ false → (is_target f && is_name x) ≡ false → (o : Option ℤ) → number_of_text x ≡ o → Judged (IsCause d f x) (ranged_or OtherForm f o)
   unfolding IsCause
   written-judged r t (Some z) o = ranged-at (is_in f z) refl
     where
@@ -222,11 +222,11 @@ module _ (d : Distances) (f : Field) (x : List ℕ) where
   operand-judged : Judged (IsCause d f x) (operand_in d f x)
   operand-judged = by (is_register f) refl
     where
-      by-target : is_register f ≡ false → (t : Bool) → (is_target f && is_name x) ≡ t → Judged (IsCause d f x) (if t then ranged_if_defined f (d x) else ranged_if_read f (number_of_text x))
+      by-target : is_register f ≡ false → (t : Bool) → (is_target f && is_name x) ≡ t → Judged (IsCause d f x) (if t then (ranged_or Undefined f (d x)) else (ranged_or OtherForm f (number_of_text x)))
       by-target r true t = distant-judged r t (d x) refl
       by-target r false t = written-judged r t (number_of_text x) refl
 
-      by : (b : Bool) → is_register f ≡ b → Judged (IsCause d f x) (if b then registered_in x else if is_target f && is_name x then ranged_if_defined f (d x) else ranged_if_read f (number_of_text x))
+      by : (b : Bool) → is_register f ≡ b → Judged (IsCause d f x) (if b then registered_in x else if is_target f && is_name x then (ranged_or Undefined f (d x)) else (ranged_or OtherForm f (number_of_text x)))
       by true r = registered-judged r (is_name x) refl (register_of_text x) refl
       by false r = by-target r (is_target f && is_name x) refl
 
@@ -277,7 +277,7 @@ module _ (d : Distances) (s : Slot) (slots : List Slot) (text : List ℕ) where
   from-behind None e DefinedTwice h = absurd h
 
 behind-judged : (d : Distances) (slots : List Slot) → ((rest : List ℕ) → Judged (OperandFault d slots rest) (operands_in d slots rest))
-    → (o : Option (List ℕ)) → Judged (BehindFault d slots o) (or_other_form (option_map (λ rest. operands_in d slots rest) o))
+    → (o : Option (List ℕ)) → Judged (BehindFault d slots o) (ok_or o OtherForm >>= λ rest. operands_in d slots rest)
 unfolding BehindFault
 behind-judged d slots each (Some rest) = each rest
 behind-judged d slots each None = record { is_there = tt; is_least = from-1 (BehindFault d slots None) }
@@ -293,7 +293,7 @@ operands-judged d (s ∷ slots) text =
     let o = after_slot s (after_operand text) in
     same-judged (λ k. IsCause d (field_of s) (next_operand text) k ⊎ BehindFault d slots o k) (OperandFault d (s ∷ slots) text) (operands_in d (s ∷ slots) text)
     (to-behind d s slots text o refl) (from-behind d s slots text o refl)
-    (both-judged (IsCause d (field_of s) (next_operand text)) (BehindFault d slots o) (operand_in d (field_of s) (next_operand text)) (or_other_form (option_map (λ rest. operands_in d slots rest) o))
+    (both-judged (IsCause d (field_of s) (next_operand text)) (BehindFault d slots o) (operand_in d (field_of s) (next_operand text)) (ok_or o OtherForm >>= λ rest. operands_in d slots rest)
     (operand-judged d (field_of s) (next_operand text))
     (behind-judged d slots (λ rest. operands-judged d slots rest) o))
 
@@ -311,9 +311,9 @@ module _ (d : Distances) (text : List ℕ) (row : Row) (has : HasMnemonic text r
   statement-has Undefined h = record { row = row; has_mnemonic = has; operand = h }
   statement-has DefinedTwice h = absurd h
 
-  other-form : (has_none (slots_of row.form) || begins is_blank (after_first_word text)) ≡ true → HasOtherForm text → HasOtherOperands (slots_of row.form) (after_first_word text)
+  other-form : (is_empty (slots_of row.form) || begins is_blank (after_first_word text)) ≡ true → HasOtherForm text → HasOtherOperands (slots_of row.form) (after_first_word text)
   other-form blank (no_word there none) = absurd (true≢false (sym none ∙ has.is_there))
-  other-form blank (no_blank r h none) = absurd (true≢false (sym blank ∙ ap (λ (q : Row). has_none (slots_of q.form) || begins is_blank (after_first_word text)) (same-row row r (row_named (first_word text)) has.is_row h.is_row) ∙ none))
+  other-form blank (no_blank r h none) = absurd (true≢false (sym blank ∙ ap (λ (q : Row). is_empty (slots_of q.form) || begins is_blank (after_first_word text)) (same-row row r (row_named (first_word text)) has.is_row h.is_row) ∙ none))
   other-form blank (other_operands r h other) = subst (λ (q : Row). HasOtherOperands (slots_of q.form) (after_first_word text)) (same-row r row (row_named (first_word text)) h.is_row has.is_row) other
 
   faulty : (F : Field → List ℕ → Type 0) → HasFaultyOperand F text → SomeOperand F (slots_of row.form) (after_first_word text)
@@ -322,7 +322,7 @@ module _ (d : Distances) (text : List ℕ) (row : Row) (has : HasMnemonic text r
   known-mnemonic : HasUnknownMnemonic text → ⊥
   known-mnemonic h = let known : None ≡ Some row = sym h.is_unknown ∙ has.is_row in absurd cc
 
-  operands-have : (has_none (slots_of row.form) || begins is_blank (after_first_word text)) ≡ true → (k : FaultKind) → HasFault d text k → OperandFault d (slots_of row.form) (after_first_word text) k
+  operands-have : (is_empty (slots_of row.form) || begins is_blank (after_first_word text)) ≡ true → (k : FaultKind) → HasFault d text k → OperandFault d (slots_of row.form) (after_first_word text) k
   unfolding OperandFault
   operands-have blank OtherForm h = other-form blank h
   operands-have blank UnknownMnemonic h = known-mnemonic h
@@ -331,7 +331,7 @@ module _ (d : Distances) (text : List ℕ) (row : Row) (has : HasMnemonic text r
   operands-have blank Undefined h = faulty (IsUndefined d) h
   operands-have blank DefinedTwice h = h
 
-  tested-judged : (b : Bool) → (has_none (slots_of row.form) || begins is_blank (after_first_word text)) ≡ b → Judged (HasFault d text) (if b then operands_in d (slots_of row.form) (after_first_word text) else Err OtherForm)
+  tested-judged : (b : Bool) → (is_empty (slots_of row.form) || begins is_blank (after_first_word text)) ≡ b → Judged (HasFault d text) (if b then operands_in d (slots_of row.form) (after_first_word text) else Err OtherForm)
   tested-judged true blank =
       same-judged (OperandFault d (slots_of row.form) (after_first_word text)) (HasFault d text) (operands_in d (slots_of row.form) (after_first_word text)) statement-has (operands-have blank)
       (operands-judged d (slots_of row.form) (after_first_word text))
@@ -341,7 +341,7 @@ row-judged : (d : Distances) (text : List ℕ) → is_empty (first_word text) �
 row-judged d text there (Some row) is =
     let has : HasMnemonic text row = record { is_there = there; is_row = is } in
     then-judged (HasFault d text) (word_by row) (operands_of d (slots_of row.form) (after_first_word text))
-    (tested-judged d text row has (has_none (slots_of row.form) || begins is_blank (after_first_word text)) refl)
+    (tested-judged d text row has (is_empty (slots_of row.form) || begins is_blank (after_first_word text)) refl)
 row-judged d text there None is = record {
   is_there = record { is_there = there; is_unknown = is };
   is_least = from-2 (HasFault d text) no-form;

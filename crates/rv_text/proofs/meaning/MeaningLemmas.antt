@@ -1,11 +1,11 @@
 -- A text says a word if and only if it has the word.
-use Rattle.std.proofs.Common.{◌≡◌, ℕ, ◌+◌, ◌^◌, ◌<◌, ◌||◌, Bool, true, false, List, [], ◌∷◌, refl, ap, ◌∙◌, sym, subst, arith, ℤ, pos, Option, Some, None, option_map, Result, Ok, Err, ◌↔◌}
+use Rattle.std.proofs.Common.{◌≡◌, ℕ, ◌+◌, ◌^◌, ◌<◌, ◌||◌, Bool, true, false, List, [], ◌∷◌, refl, ap, ◌∙◌, sym, subst, arith, ℤ, pos, Option, Some, None, Result, Ok, Err, ◌↔◌}
 use Rattle.std.proofs.lemmas.Bool.{false≢true, and_from}
 use Rattle.std.proofs.lemmas.Bool.Decides.{nat_tests}
 use Rattle.std.proofs.lemmas.Int.{ints}
 use Rattle.std.proofs.lemmas.Slice.Eq.{bytes_eq-Decides}
 use Rattle.std.specs.Prelude.{if◌then◌else◌, bytes_eq, nat_lt, is_ok, is_some, option_and_then}
-use Rattle.std.specs.Option.{option_or}
+use Rattle.std.specs.Option.{option_or, ok_or}
 use Rattle.rd_base.specs.Results.{◌>>=◌}
 use Rattle.rv_decode.specs.Word.{word_of}
 use Rattle.rv_decode.specs.declared.instr.Instr.{Instr}
@@ -13,8 +13,8 @@ use Rattle.rv_text.specs.Characters.{is_blank, skip, is_empty, begins, is_name}
 use Rattle.rv_text.specs.Numbers.{is_x, natural_of_text, below_32, number_of_text, register_of_text}
 use Rattle.rv_text.specs.Fields.{within, is_in}
 use Rattle.rv_text.specs.Faults.{earlier}
-use Rattle.rv_text.specs.Operands.{Distances, slots_of, field_of, ranged_if_read, ranged_if_defined, registered, registered_in, operand_in, both, after_slot, or_other_form, operands_in, operands_of, next_operand, after_operand, has_none}
-use Rattle.rv_text.specs.Rows.{Named, row, row_in, row_named, placed_in, word_by, register_rows, multiply_rows, immediate_rows, memory_rows, branch_rows, other_rows}
+use Rattle.rv_text.specs.Operands.{ranged_or, Distances, slots_of, field_of, registered_in, operand_in, both, after_slot, operands_in, operands_of, next_operand, after_operand}
+use Rattle.rv_text.specs.Rows.{Named, row_in, row_named, placed_in, word_by, register_rows, multiply_rows, immediate_rows, memory_rows, branch_rows, other_rows}
 use Rattle.rv_text.specs.Lines.{first_word, after_first_word, word_of_row, word_of_statement}
 use Rattle.rv_text.specs.Spelling.{Spelling, spelled, spelling_of, raw}
 use Rattle.rv_text.specs.Meaning.{IsSpelledBy, IsWordOf, of_instruction, of_itself, StandsForWord}
@@ -27,6 +27,7 @@ use Rattle.rv_text.specs.declared.fault.FaultKind.{FaultKind}
 use Rattle.rv_text.specs.declared.fault.FaultKind.TheVariants.{OtherForm, UnknownMnemonic, NoRegister, OutOfRange, Undefined}
 use Rattle.rv_text.proofs.read_back.SpellingLemmas.{is_mnemonic, IsSpelled, spellings}
 use Rattle.rv_text.proofs.meaning.InstructionLemmas.{in_ranges, Built, instruction, word, Builds, AllBuild, register-rows, multiply-rows, immediate-rows, memory-rows, branch-rows, other-rows}
+use Rattle.rv_text.proofs.RowLemmas.{row_by}
 
 -- ---- results
 value_or : {A E : Type 0} → A → Result A E → A
@@ -59,7 +60,7 @@ register-range : (text : List ℕ) (z : ℤ) → register_of_text text ≡ Some 
 register-range [] z e = elim (none-not_some z e) [ ]
 register-range (c ∷ cs) z e = tested-register (is_x c) (natural_of_text cs) z e
 
-tested-name : (b : Bool) (o : Option ℤ) (z : ℤ) → ((x : ℤ) → o ≡ Some x → within (pos 0) (pos 31) x ≡ true) → (if b then registered o else Err OtherForm) ≡ Ok z → within (pos 0) (pos 31) z ≡ true
+tested-name : (b : Bool) (o : Option ℤ) (z : ℤ) → ((x : ℤ) → o ≡ Some x → within (pos 0) (pos 31) x ≡ true) → (if b then ok_or o NoRegister else Err OtherForm) ≡ Ok z → within (pos 0) (pos 31) z ≡ true
 tested-name true (Some x) z h e = subst (λ x. within (pos 0) (pos 31) x ≡ true) (ok-same x z e) (h x refl)
 tested-name true None z h e = elim (err-not_ok NoRegister z e) [ ]
 tested-name false o z h e = elim (err-not_ok OtherForm z e) [ ]
@@ -71,15 +72,15 @@ tested-range : (f : Field) (b : Bool) (x z : ℤ) → is_in f x ≡ b → (if b 
 tested-range f true x z h e = subst (λ x. is_in f x ≡ true) (ok-same x z e) h
 tested-range f false x z h e = elim (err-not_ok OutOfRange z e) [ ]
 
-written-range : (f : Field) (o : Option ℤ) (z : ℤ) → ranged_if_read f o ≡ Ok z → is_in f z ≡ true
+written-range : (f : Field) (o : Option ℤ) (z : ℤ) → (ranged_or OtherForm f o) ≡ Ok z → is_in f z ≡ true
 written-range f (Some x) z e = tested-range f (is_in f x) x z refl e
 written-range f None z e = elim (err-not_ok OtherForm z e) [ ]
 
-distant-range : (f : Field) (o : Option ℤ) (z : ℤ) → ranged_if_defined f o ≡ Ok z → is_in f z ≡ true
+distant-range : (f : Field) (o : Option ℤ) (z : ℤ) → (ranged_or Undefined f o) ≡ Ok z → is_in f z ≡ true
 distant-range f (Some x) z e = tested-range f (is_in f x) x z refl e
 distant-range f None z e = elim (err-not_ok Undefined z e) [ ]
 
-tested-target : (f : Field) (b : Bool) (o p : Option ℤ) (z : ℤ) → (if b then ranged_if_defined f o else ranged_if_read f p) ≡ Ok z → is_in f z ≡ true
+tested-target : (f : Field) (b : Bool) (o p : Option ℤ) (z : ℤ) → (if b then (ranged_or Undefined f o) else (ranged_or OtherForm f p)) ≡ Ok z → is_in f z ≡ true
 tested-target f true o p z e = distant-range f o z e
 tested-target f false o p z e = written-range f p z e
 
@@ -95,13 +96,13 @@ operand-range d JumpTarget text z e = tested-target JumpTarget (is_name text) (d
 operand-range d Upper text z e = written-range Upper (number_of_text text) z e
 operand-range d Word text z e = written-range Word (number_of_text text) z e
 
-both-range : (s : Slot) (slots : List Slot) (r : Result ℤ FaultKind) (rs : Result (List ℤ) FaultKind) (zs : List ℤ) → ((z : ℤ) → r ≡ Ok z → is_in (field_of s) z ≡ true) → ((ys : List ℤ) → rs ≡ Ok ys → in_ranges slots ys ≡ true) → both r rs ≡ Ok zs → in_ranges (s ∷ slots) zs ≡ true
+both-range : (s : Slot) (slots : List Slot) (r : Result ℤ FaultKind) (rs : Result (List ℤ) FaultKind) (zs : List ℤ) → ((z : ℤ) → r ≡ Ok z → is_in (field_of s) z ≡ true) → ((ys : List ℤ) → rs ≡ Ok ys → in_ranges slots ys ≡ true) → both ◌∷◌ r rs ≡ Ok zs → in_ranges (s ∷ slots) zs ≡ true
 both-range s slots (Ok z) (Ok ys) zs h k e = subst (λ zs. in_ranges (s ∷ slots) zs ≡ true) (ok-same (z ∷ ys) zs e) (and_from _ _ (h z refl) (k ys refl))
 both-range s slots (Ok z) (Err j) zs h k e = elim (err-not_ok j zs e) [ ]
 both-range s slots (Err i) (Ok ys) zs h k e = elim (err-not_ok i zs e) [ ]
 both-range s slots (Err i) (Err j) zs h k e = elim (err-not_ok (earlier i j) zs e) [ ]
 
-behind-range : (d : Distances) (slots : List Slot) (o : Option (List ℕ)) (ys : List ℤ) → ((text : List ℕ) (ys : List ℤ) → operands_in d slots text ≡ Ok ys → in_ranges slots ys ≡ true) → or_other_form (option_map (λ rest. operands_in d slots rest) o) ≡ Ok ys → in_ranges slots ys ≡ true
+behind-range : (d : Distances) (slots : List Slot) (o : Option (List ℕ)) (ys : List ℤ) → ((text : List ℕ) (ys : List ℤ) → operands_in d slots text ≡ Ok ys → in_ranges slots ys ≡ true) → (ok_or o OtherForm >>= λ rest. operands_in d slots rest) ≡ Ok ys → in_ranges slots ys ≡ true
 behind-range d slots (Some text) ys h e = h text ys e
 behind-range d slots None ys h e = elim (err-not_ok OtherForm ys e) [ ]
 
@@ -120,7 +121,7 @@ tested-blank true d slots text zs e = operands-range d slots text zs e
 tested-blank false d slots text zs e = elim (err-not_ok OtherForm zs e) [ ]
 
 values-range : (d : Distances) (slots : List Slot) (text : List ℕ) (zs : List ℤ) → operands_of d slots text ≡ Ok zs → in_ranges slots zs ≡ true
-values-range d slots text zs e = tested-blank (has_none slots || begins is_blank text) d slots text zs e
+values-range d slots text zs e = tested-blank (is_empty slots || begins is_blank text) d slots text zs e
 
 -- ---- rows
 row-found : (ns : List Named) → AllBuild ns → (name : List ℕ) (r : Row) → row_in name ns ≡ Some r → Builds name r.form
@@ -151,7 +152,7 @@ base_or : ℕ → Option Row → ℕ
 base_or n (Some r) = r.base
 base_or n None = n
 
-same-base : (form : Form) (a b : ℕ) (o : Option Row) → o ≡ Some (row form a) → o ≡ Some (row form b) → a ≡ b
+same-base : (form : Form) (a b : ℕ) (o : Option Row) → o ≡ Some (row_by form a) → o ≡ Some (row_by form b) → a ≡ b
 unfolding base_or
 same-base form a b o h k = ap (base_or 0) (sym h ∙ k)
 
@@ -159,7 +160,7 @@ same-base form a b o h k = ap (base_or 0) (sym h ∙ k)
 record HasWord (s : Spelling) (w : ℕ) : Type 0 where
   base : ℕ
   is_there : is_empty s.name ≡ false
-  is_named : row_named s.name ≡ Some (row s.form base)
+  is_named : row_named s.name ≡ Some (row_by s.form base)
   is_word : base + placed_in (slots_of s.form) s.values ≡ w
 
 begins-there : (name : List ℕ) → is_mnemonic name ≡ true → is_empty name ≡ false
@@ -177,10 +178,10 @@ has-word : EachHasWord → (s : Spelling) (w : ℕ) → IsWordOf s w → HasWord
 has-word law s w (of_instruction i e q) = subst (λ n. HasWord s n) q (subst (λ s. HasWord s (word_of i)) (sym e) (spelled-word (spelling_of i) (word_of i) (spellings i (law i))))
 has-word law s w (of_itself e) = subst (λ s. HasWord s w) (sym e) (raw-word w)
 
-row-word : (s : Spelling) (base w : ℕ) → row_named s.name ≡ Some (row s.form base) → HasWord s w → w ≡ base + placed_in (slots_of s.form) s.values
+row-word : (s : Spelling) (base w : ℕ) → row_named s.name ≡ Some (row_by s.form base) → HasWord s w → w ≡ base + placed_in (slots_of s.form) s.values
 row-word s base w e has = sym has.is_word ∙ ap (λ b. b + placed_in (slots_of s.form) s.values) (same-base s.form has.base base (row_named s.name) has.is_named e)
 
-built-word : EachHasWord → (s : Spelling) (base : ℕ) → row_named s.name ≡ Some (row s.form base) → Built s → IsWordOf s (base + placed_in (slots_of s.form) s.values)
+built-word : EachHasWord → (s : Spelling) (base : ℕ) → row_named s.name ≡ Some (row_by s.form base) → Built s → IsWordOf s (base + placed_in (slots_of s.form) s.values)
 built-word law s base e (instruction i q) = of_instruction i q (row-word s base (word_of i) e (subst (λ s. HasWord s (word_of i)) (sym q) (spelled-word (spelling_of i) (word_of i) (spellings i (law i)))))
 built-word law s base e (word w q) = of_itself (q ∙ ap raw (row-word s base w e (subst (λ s. HasWord s w) (sym q) (raw-word w))))
 
@@ -214,7 +215,7 @@ written-word law d text s w is meant =
     ap (λ n. if is_empty n then Err OtherForm else word_of_row d (row_named n) after) is.mnemonic
     ∙ (ap (λ b. if b then Err OtherForm else word_of_row d (row_named s.name) after) has.is_there
     ∙ (ap (λ o. word_of_row d o after) has.is_named
-    ∙ (ap (λ q. q >>= λ zs. Ok (word_by (row s.form has.base) zs)) is.operands
+    ∙ (ap (λ q. q >>= λ zs. Ok (word_by (row_by s.form has.base) zs)) is.operands
     ∙ ap (λ n. Ok n) has.is_word)))
 
 pub statement-stands : EachHasWord → (d : Distances) (text : List ℕ) (w : ℕ) → (word_of_statement d text ≡ Ok w) ↔ StandsForWord d text w

@@ -6,19 +6,20 @@ use Rattle.rv_decode.specs.Word.{word_of}
 use Rattle.rv_decode.specs.Reading.{reading_of}
 use Rattle.rv_decode.specs.declared.instr.Instr.{Instr}
 use Rattle.rv_text.specs.Characters.{source_lines}
-use Rattle.rv_text.specs.Spelling.{Spelling, spelling_of, spelling_by, spelling_in}
+use Rattle.rv_text.specs.Spelling.{Spelling, spelling_of, spelling_in, raw}
 use Rattle.rv_text.specs.Listing.{line_of, listing, spelling_text}
 use Rattle.rv_text.specs.Lines.{code_in, label_in, word_in}
 use Rattle.rv_text.specs.Assembly.{Names, no_names, near, distances_from, pass, after_line, with_label, place_after, first_pass, second_pass, assembled}
 use Rattle.rv_text.proofs.read_back.SpellingLemmas.{IsSpelled, spellings, raw-law}
 use Rattle.rv_text.proofs.read_back.LineLemmas.{line-read, line-unlabelled, lines-first, spelling-plain}
+use Rattle.std.specs.Option.{option_map_or}
 
 -- the decoder's law: the reading of a word is the one instruction that has it
 abbrev pub OneReading : Type 0
 OneReading = (word : ℕ) → word < 2 ^ 32 → (i : Instr) → (reading_of word ≡ Some i) ↔ (word_of i ≡ word)
 
 word-spelled : OneReading → (w : ℕ) → w < 2 ^ 32 → IsSpelled (spelling_in w) w
-word-spelled law w h = elim (reading_of w) as (λ o. reading_of w ≡ o → IsSpelled (spelling_by w o) w) [
+word-spelled law w h = elim (reading_of w) as (λ o. reading_of w ≡ o → IsSpelled (option_map_or spelling_of o (raw w)) w) [
   | None ↦ λ e. raw-law w h
   | Some i ↦ λ e. let same = (law w h i).0 e in subst (λ n. IsSpelled (spelling_of i) n) same (spellings i (subst (λ n. n < 2 ^ 32) (sym same) h))
 ] refl

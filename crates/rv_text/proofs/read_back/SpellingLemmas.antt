@@ -1,16 +1,17 @@
 -- How each instruction is written: its mnemonic has a row of its form, its values fit, and the row makes its word of them. A line for
 -- each instruction stands here, in the definitions and in `InstructionLemmas`, and nowhere else.
 use Rattle.std.proofs.Common.{◌≡◌, ℕ, suc, ◌+◌, ◌-◌, ◌*◌, ◌/◌, ◌%◌, ◌^◌, ◌<◌, ◌==◌, ◌&&◌, Bool, true, false, List, [], ◌∷◌, refl, arith, pos, negsuc, ◌≤ℤ◌, ℤ, unsigned_abs, Some}
+use Rattle.std.specs.List.{list_all}
 use Rattle.std.proofs.lemmas.Bool.{and_from, eqb-true}
 use Rattle.std.proofs.lemmas.Bool.Decides.{nat_tests}
 use Rattle.std.proofs.lemmas.Int.{ints}
 use Rattle.std.specs.Prelude.{codes, if◌then◌else◌}
 use Rattle.rv_decode.specs.Bits.{bits, twos_complement}
 use Rattle.rv_decode.specs.Word.{r_word, i_word, shift_word, s_word, b_word, u_word, j_word, word_of, placed}
-use Rattle.rv_text.specs.Characters.{is_of_mnemonic, every, begins}
+use Rattle.rv_text.specs.Characters.{is_of_mnemonic, begins}
 use Rattle.rv_text.specs.Fields.{within, is_even, is_in}
 use Rattle.rv_text.specs.Operands.{slots_of}
-use Rattle.rv_text.specs.Rows.{row, row_named, placed_in}
+use Rattle.rv_text.specs.Rows.{row_named, placed_in}
 use Rattle.rv_text.specs.Spelling.{Spelling, spelled_registers, spelled_immediate, spelled_shifted, spelled_based, spelled_stored, spelled_branch, spelled_jump, spelled_upper, spelled_alone, raw, spelling_of}
 use Rattle.rv_text.specs.declared.form.Form.TheVariants.{Registers, Immediate, Shift, Based, Store, Branch, Jump, Upper, Alone}
 use Rattle.rv_text.specs.declared.form.Slot.{Slot}
@@ -25,9 +26,10 @@ use Rattle.rv_decode.specs.declared.instr.JType.{JType}
 use Rattle.rv_decode.specs.declared.instr.FenceType.{FenceType}
 use Rattle.rv_decode.specs.declared.instr.Instr.{Instr}
 use Rattle.rv_decode.specs.declared.instr.Instr.TheVariants.{Lui, Auipc, Jal, Jalr, Beq, Bne, Blt, Bge, Bltu, Bgeu, Lb, Lh, Lw, Lbu, Lhu, Sb, Sh, Sw, Addi, Slti, Sltiu, Xori, Ori, Andi, Slli, Srli, Srai, Add, Sub, Sll, Slt, Sltu, Xor, Srl, Sra, Or, And, Mul, Mulh, Mulhsu, Mulhu, Div, Divu, Rem, Remu, Fence, Ecall, Ebreak}
+use Rattle.rv_text.proofs.RowLemmas.{row_by}
 
 abbrev pub is_mnemonic : List ℕ → Bool
-is_mnemonic name = begins is_of_mnemonic name && every is_of_mnemonic name
+is_mnemonic name = begins is_of_mnemonic name && list_all is_of_mnemonic name
 
 -- one value in its range for each slot, and no slot behind the last one
 abbrev pub fit : List Slot → List ℤ → Bool
@@ -40,7 +42,7 @@ fit _ _ = false
 pub record IsSpelled (s : Spelling) (w : ℕ) : Type 0 where
   pub base : ℕ
   pub is_a_mnemonic : is_mnemonic s.name ≡ true
-  pub is_named : row_named s.name ≡ Some (row s.form base)
+  pub is_named : row_named s.name ≡ Some (row_by s.form base)
   pub is_fit : fit (slots_of s.form) s.values ≡ true
   pub is_word : base + placed_in (slots_of s.form) s.values ≡ w
 
@@ -85,7 +87,7 @@ upper-is (pos n) f t = record { is_placed = upper-placed n (omega (arith, ints))
 upper-is (negsuc n) f t = record { is_placed = upper-placed (2 ^ 32 - suc n) (omega (arith, ints)); is_small = omega (arith, ints) }
 
 -- ---- the law of each form
-pub registers-law : (name : List ℕ) (base opcode funct3 funct7 : ℕ) → is_mnemonic name ≡ true → row_named name ≡ Some (row Registers base) → base ≡ opcode + funct3 * 2 ^ 12 + funct7 * 2 ^ 25 → (r : RType) → IsSpelled (spelled_registers name r) (r_word opcode funct3 funct7 r)
+pub registers-law : (name : List ℕ) (base opcode funct3 funct7 : ℕ) → is_mnemonic name ≡ true → row_named name ≡ Some (row_by Registers base) → base ≡ opcode + funct3 * 2 ^ 12 + funct7 * 2 ^ 25 → (r : RType) → IsSpelled (spelled_registers name r) (r_word opcode funct3 funct7 r)
 unfolding placed
 registers-law name base opcode funct3 funct7 m n e r = record {
   base = base;
@@ -95,7 +97,7 @@ registers-law name base opcode funct3 funct7 m n e r = record {
   is_word = omega arith;
 }
 
-pub immediate-law : (name : List ℕ) (base opcode funct3 : ℕ) → is_mnemonic name ≡ true → row_named name ≡ Some (row Immediate base) → base ≡ opcode + funct3 * 2 ^ 12 → (i : IType) → IsSpelled (spelled_immediate name i) (i_word opcode funct3 i)
+pub immediate-law : (name : List ℕ) (base opcode funct3 : ℕ) → is_mnemonic name ≡ true → row_named name ≡ Some (row_by Immediate base) → base ≡ opcode + funct3 * 2 ^ 12 → (i : IType) → IsSpelled (spelled_immediate name i) (i_word opcode funct3 i)
 unfolding placed
 immediate-law name base opcode funct3 m n e i =
     let same = i-bits (twos_complement 12 i.imm) (small-12 i.imm i.imm_from i.imm_to) in
@@ -107,7 +109,7 @@ immediate-law name base opcode funct3 m n e i =
       is_word = omega arith;
     }
 
-pub shifted-law : (name : List ℕ) (base opcode funct3 funct7 : ℕ) → is_mnemonic name ≡ true → row_named name ≡ Some (row Shift base) → base ≡ opcode + funct3 * 2 ^ 12 + funct7 * 2 ^ 25 → (s : ShiftType) → IsSpelled (spelled_shifted name s) (shift_word opcode funct3 funct7 s)
+pub shifted-law : (name : List ℕ) (base opcode funct3 funct7 : ℕ) → is_mnemonic name ≡ true → row_named name ≡ Some (row_by Shift base) → base ≡ opcode + funct3 * 2 ^ 12 + funct7 * 2 ^ 25 → (s : ShiftType) → IsSpelled (spelled_shifted name s) (shift_word opcode funct3 funct7 s)
 unfolding placed
 shifted-law name base opcode funct3 funct7 m n e s =
     let same = shift-bits s.imm s.imm_from in
@@ -119,7 +121,7 @@ shifted-law name base opcode funct3 funct7 m n e s =
       is_word = omega arith;
     }
 
-pub based-law : (name : List ℕ) (base opcode funct3 : ℕ) → is_mnemonic name ≡ true → row_named name ≡ Some (row Based base) → base ≡ opcode + funct3 * 2 ^ 12 → (i : IType) → IsSpelled (spelled_based name i) (i_word opcode funct3 i)
+pub based-law : (name : List ℕ) (base opcode funct3 : ℕ) → is_mnemonic name ≡ true → row_named name ≡ Some (row_by Based base) → base ≡ opcode + funct3 * 2 ^ 12 → (i : IType) → IsSpelled (spelled_based name i) (i_word opcode funct3 i)
 unfolding placed
 based-law name base opcode funct3 m n e i =
     let same = i-bits (twos_complement 12 i.imm) (small-12 i.imm i.imm_from i.imm_to) in
@@ -131,7 +133,7 @@ based-law name base opcode funct3 m n e i =
       is_word = omega arith;
     }
 
-pub stored-law : (name : List ℕ) (base opcode funct3 : ℕ) → is_mnemonic name ≡ true → row_named name ≡ Some (row Store base) → base ≡ opcode + funct3 * 2 ^ 12 → (s : SType) → IsSpelled (spelled_stored name s) (s_word opcode funct3 s)
+pub stored-law : (name : List ℕ) (base opcode funct3 : ℕ) → is_mnemonic name ≡ true → row_named name ≡ Some (row_by Store base) → base ≡ opcode + funct3 * 2 ^ 12 → (s : SType) → IsSpelled (spelled_stored name s) (s_word opcode funct3 s)
 unfolding placed
 stored-law name base opcode funct3 m n e s = record {
   base = base;
@@ -141,7 +143,7 @@ stored-law name base opcode funct3 m n e s = record {
   is_word = omega arith;
 }
 
-pub branch-law : (name : List ℕ) (base opcode funct3 : ℕ) → is_mnemonic name ≡ true → row_named name ≡ Some (row Branch base) → base ≡ opcode + funct3 * 2 ^ 12 → (b : BType) → IsSpelled (spelled_branch name b) (b_word opcode funct3 b)
+pub branch-law : (name : List ℕ) (base opcode funct3 : ℕ) → is_mnemonic name ≡ true → row_named name ≡ Some (row_by Branch base) → base ≡ opcode + funct3 * 2 ^ 12 → (b : BType) → IsSpelled (spelled_branch name b) (b_word opcode funct3 b)
 unfolding placed
 branch-law name base opcode funct3 m n e b = record {
   base = base;
@@ -151,7 +153,7 @@ branch-law name base opcode funct3 m n e b = record {
   is_word = omega arith;
 }
 
-pub jump-law : (name : List ℕ) (base opcode : ℕ) → is_mnemonic name ≡ true → row_named name ≡ Some (row Jump base) → base ≡ opcode → (j : JType) → IsSpelled (spelled_jump name j) (j_word opcode j)
+pub jump-law : (name : List ℕ) (base opcode : ℕ) → is_mnemonic name ≡ true → row_named name ≡ Some (row_by Jump base) → base ≡ opcode → (j : JType) → IsSpelled (spelled_jump name j) (j_word opcode j)
 unfolding placed
 jump-law name base opcode m n e j =
     let same = j-bits (twos_complement 21 j.imm) in
@@ -163,7 +165,7 @@ jump-law name base opcode m n e j =
       is_word = omega arith;
     }
 
-pub upper-law : (name : List ℕ) (base opcode : ℕ) → is_mnemonic name ≡ true → row_named name ≡ Some (row Upper base) → base ≡ opcode → (u : UType) → IsSpelled (spelled_upper name u) (u_word opcode u)
+pub upper-law : (name : List ℕ) (base opcode : ℕ) → is_mnemonic name ≡ true → row_named name ≡ Some (row_by Upper base) → base ≡ opcode → (u : UType) → IsSpelled (spelled_upper name u) (u_word opcode u)
 unfolding placed
 upper-law name base opcode m n e u =
     let fine = upper-is u.imm u.imm_from u.imm_to in
@@ -176,7 +178,7 @@ upper-law name base opcode m n e u =
       is_word = omega arith;
     }
 
-pub alone-law : (name : List ℕ) (base w : ℕ) → is_mnemonic name ≡ true → row_named name ≡ Some (row Alone base) → base ≡ w → IsSpelled (spelled_alone name) w
+pub alone-law : (name : List ℕ) (base w : ℕ) → is_mnemonic name ≡ true → row_named name ≡ Some (row_by Alone base) → base ≡ w → IsSpelled (spelled_alone name) w
 alone-law name base w m n e = record { base = base; is_a_mnemonic = m; is_named = n; is_fit = refl; is_word = omega arith }
 
 pub raw-law : (w : ℕ) → w < 2 ^ 32 → IsSpelled (raw w) w
