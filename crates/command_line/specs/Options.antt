@@ -47,9 +47,7 @@ most_of every = 65536
 
 -- the name with its hyphens
 abbrev pub option_word : OptionName → List ℕ
-option_word workers = codes "--workers"
-option_word posters = codes "--posters"
-option_word every = codes "--every"
+option_word o = codes "--" ++ name_text o
 
 -- the words of options one after another
 abbrev pub words_of : List Given → List (List ℕ)
@@ -71,8 +69,7 @@ pub record IsPlainNumber (o : OptionName) (text : List ℕ) : Type 0 where
 
 abbrev pub IsPlain : Given → Type 0
 IsPlain (number o text) = IsPlainNumber o text
-IsPlain full = Unit {0}
-IsPlain (digest name) = Unit {0}
+IsPlain other = Unit {0}
 
 -- options that are plainly written, none of them twice
 pub record ArePlain (given : List Given) : Type 0 where
@@ -82,20 +79,17 @@ pub record ArePlain (given : List Given) : Type 0 where
 -- an option of `judge`: a number's word begins with a decimal digit
 abbrev pub IsOfJudge : Given → Type 0
 IsOfJudge (number o text) = begins_with_digit text ≡ true
-IsOfJudge full = Unit {0}
-IsOfJudge (digest name) = Unit {0}
+IsOfJudge other = Unit {0}
 
 -- an option of `big`: one with a number, whose word begins with a decimal digit
 abbrev pub IsOfBig : Given → Type 0
 IsOfBig (number o text) = begins_with_digit text ≡ true
-IsOfBig full = ⊥
-IsOfBig (digest name) = ⊥
+IsOfBig other = ⊥
 
 -- a number is in its option's range
 abbrev pub is_fine : Given → Bool
 is_fine (number o text) = is_unsigned_in 1 (most_of o) text
-is_fine full = true
-is_fine (digest name) = true
+is_fine other = true
 
 -- the first option of this name
 abbrev pub given_by : List ℕ → List Given → Option Given

@@ -1,5 +1,5 @@
 -- To believe. The arguments of the command line, as `clap` takes them.
-use Rattle.std.specs.Prelude.{◌≡◌, ◌<◌, ℕ, pos, List, [], ◌∷◌, Bool, true, false, codes, find, map, option_map, Option, Some, None, if◌then◌else◌, String, string_bytes}
+use Rattle.std.specs.Prelude.{◌≡◌, ◌<◌, ℕ, pos, List, [], ◌∷◌, Bool, true, false, codes, map, option_map, Option, Some, None, if◌then◌else◌, String, string_bytes}
 use Rattle.std.specs.declared.alloc.Global.{Global}
 use Rattle.std.specs.Option.{option_and_then, option_map_or}
 use Rattle.std.specs.Str.{bytes_eq}
@@ -13,7 +13,6 @@ use Rattle.clap.specs.Faults.{fault_of}
 use Rattle.clap.specs.declared.builder.action.ArgAction.TheVariants.{SetTrue}
 use Rattle.clap.specs.declared.builder.value_parser.ValueParser.TheVariants as vp
 use Rattle.digest_core.specs.Name.{digest_named}
-use Rattle.digest_core.specs.declared.name.DigestName.{DigestName}
 use Rattle.command_line.specs.declared.request.MatchText.{MatchText}
 use Rattle.command_line.specs.declared.request.MatchText.TheVariants.{Report, Full}
 use Rattle.command_line.specs.declared.request.Command.{Command}
