@@ -2,6 +2,7 @@
 pub mod WordLemmas
 pub mod LineLemmas
 pub mod ReadLemmas
+pub mod Forms
 pub mod FieldLemmas
 pub mod BackLemmas
 pub mod HexSpellLemmas

@@ -1,6 +1,7 @@
 -- To believe. The limits of the numbers of a head.
 use Rattle.std.specs.Prelude.{ℕ, nat_le, Bool, ◌&&◌}
 use Rattle.transcript_text.specs.declared.limits.Limit.{Limit}
+use Rattle.transcript_text.specs.declared.text.Head.{Head}
 
 -- neither less nor more
 abbrev pub is_in_limit : Limit → ℕ → Bool
@@ -25,3 +26,9 @@ version_limit = record { least = 1; most = 3 }
 -- into how many parts a round cuts its interval
 abbrev pub fan_limit : Limit
 fan_limit = record { least = 2; most = 16 }
+
+-- each number of a head is within its limit
+abbrev pub numbers_are_in_limits : Head → Bool
+numbers_are_in_limits h =
+    is_in_limit provers_limit h.provers && (is_in_limit bound_limit h.bound && (is_in_limit patience_limit h.patience
+    && (is_in_limit version_limit h.version && is_in_limit fan_limit h.fan)))

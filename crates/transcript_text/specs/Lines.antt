@@ -1,6 +1,8 @@
 -- To believe. The lines of a report: which ones a record and a verdict have, and which speak against a prover. A line that a
 -- report leaves out, as of an answer that isn't settled, is None.
-use Rattle.std.specs.Prelude.{ℕ, ◌+◌, ◌-◌, min, Bool, false, ◌&&◌, ◌||◌, ◌==◌, List, [], ◌∷◌, ◌++◌, length, Option, Some, None, if◌then◌else◌}
+use Rattle.std.specs.Prelude.{ℕ, ◌+◌, ◌-◌, min, Bool, false, ◌&&◌, ◌||◌, ◌==◌, List, [], ◌∷◌, ◌++◌, length, Option, Some, None, option_map, if◌then◌else◌}
+use Rattle.std.specs.Option.{option_map_or}
+use Rattle.std.specs.List.{list_any}
 use Rattle.rd_base.specs.declared.status.Status.{Status}
 use Rattle.rd_base.specs.declared.answer.Answer.TheVariants as answer
 use Rattle.bisect_game.specs.declared.settled.Round.{Round}
@@ -155,8 +157,7 @@ line_of_stated NoneLeft = none_left_line
 line_of_stated (Collision x y) = collision_line x y
 
 abbrev pub line_if_stated : Option Stated → Option Line
-line_if_stated (Some s) = Some (line_of_stated s)
-line_if_stated None = None
+line_if_stated s = option_map line_of_stated s
 
 -- the line of a claim that is accepted
 abbrev pub line_of_accepted : Option (Option Settled) → Option Line
@@ -175,22 +176,11 @@ is_against p (out_line q w) = (q == p) && speaks_against w
 is_against p (round_line number mid said) = is_said_against p said
 is_against p (parts_line r said) = is_said_against p said
 is_against p (step_line lo said) = is_said_against p said
-is_against p (claim_line q status output) = false
-is_against p (stage_line stage) = false
-is_against p (dispute_line number first second) = false
-is_against p (compared_line number mid same) = false
-is_against p (kept_line r part) = false
-is_against p (balance_line q has) = false
-is_against p (pool_line has) = false
-is_against p (accept_line status output) = false
-is_against p none_left_line = false
-is_against p (collision_line x y) = false
+is_against p line = false
 
 abbrev pub is_against_if_there : ℕ → Option Line → Bool
-is_against_if_there p (Some line) = is_against p line
-is_against_if_there p None = false
+is_against_if_there p line = option_map_or (is_against p) line false
 
 -- one of the lines is
 abbrev pub are_against : ℕ → List (Option Line) → Bool
-are_against p [] = false
-are_against p (l ∷ ls) = is_against_if_there p l || are_against p ls
+are_against p lines = list_any (is_against_if_there p) lines

@@ -1,6 +1,7 @@
 -- To believe. The report of a match, and the line that answers with a run. Numbers are decimal, bytes are hexadecimal in lower case, and
 -- each line ends with a line feed.
-use Rattle.std.specs.Prelude.{ℕ, List, Bool, true, false, [], ◌∷◌, ◌++◌, Option, Some, None, codes, decimal}
+use Rattle.std.specs.Prelude.{ℕ, List, Bool, true, false, [], ◌∷◌, ◌++◌, Option, codes, decimal}
+use Rattle.std.specs.Option.{option_map_or}
 use Rattle.hex.specs.Hex.{encode_lower}
 use Rattle.rd_base.specs.Status.{status_text}
 use Rattle.rd_base.specs.declared.status.Status.{Status}
@@ -78,8 +79,7 @@ line_text none_left_line = codes "none left\n"
 line_text (collision_line x y) = codes "collision " ++ (encode_lower x ++ (codes " " ++ (encode_lower y ++ codes "\n")))
 
 abbrev pub text_if_there : Option Line → List ℕ
-text_if_there (Some line) = line_text line
-text_if_there None = []
+text_if_there line = option_map_or line_text line []
 
 abbrev pub lines_text : List (Option Line) → List ℕ
 lines_text [] = []

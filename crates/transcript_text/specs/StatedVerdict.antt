@@ -1,5 +1,5 @@
 -- To believe. What a text states of a verdict.
-use Rattle.std.specs.Prelude.{◌≡◌, ℕ, zero, suc, List, Option, Some, None, slice_get}
+use Rattle.std.specs.Prelude.{◌≡◌, ℕ, zero, suc, List, Option, Some, None, option_map, option_and_then, slice_get}
 use Rattle.rd_base.specs.declared.claim.Claim.{Claim}
 use Rattle.bisect_game.specs.declared.settled.Settled.{Settled}
 use Rattle.bisect_game.specs.Rules.{Rules}
@@ -16,13 +16,11 @@ settled_at claims (suc before) = slice_get claims before
 
 -- the claim, if one was given
 abbrev pub given_claim : Option (Option Settled) → Option Claim
-given_claim (Some s) = claim_in s
-given_claim None = None
+given_claim s = option_and_then claim_in s
 
 -- an accepted claim is stated by its status and output
 abbrev pub stated_claim : Option Claim → Option Stated
-stated_claim (Some c) = Some (Accept c.ctl.status c.output)
-stated_claim None = None
+stated_claim c = option_map (λ c. Accept c.ctl.status c.output) c
 
 -- of a number whose claim wasn't given nothing is stated
 abbrev pub stated_of : List (Option Settled) → Verdict → Option Stated

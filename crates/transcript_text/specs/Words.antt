@@ -21,8 +21,7 @@ said_word settled.Spent = Spent
 -- of an answer to a question for a proof, of a side that is out or not
 abbrev pub said_word_of_proof : Bool → Settled → Word
 said_word_of_proof out (settled.Given a) = if out then Refuted else Proved
-said_word_of_proof out (settled.Faulty a) = Faulty
-said_word_of_proof out settled.Spent = Spent
+said_word_of_proof out s = said_word s
 
 -- the words faulty, spent and refuted
 abbrev pub speaks_against : Word → Bool

@@ -1,9 +1,8 @@
 //! The reader of full texts: one pass over the lines, which keeps one move a line.
 ghost use Rattle.std.specs.Prelude.{◌+◌, ◌<◌, ◌^◌, []};
 ghost use Rattle.rd_base.specs.Results.{Gives};
-ghost use Rattle.transcript_text.specs.reader.Entries.{head_in};
-ghost use Rattle.transcript_text.specs.reader.TextLines.{lines_of};
-ghost use Rattle.transcript_text.specs.reader.ReadText.{after_verdict, later, rest_with, text_with, read_text};
+ghost use Rattle.transcript_text.specs.reader.TextLines.{line as a_line, lines_of};
+ghost use Rattle.transcript_text.specs.reader.ReadText.{after_verdict, later, rest_with, text_in_lines, read_text};
 
 mod entries;
 mod fault;
@@ -84,7 +83,7 @@ fn read_rest(alloc: Global, head: Head, bytes: &[u8]) -> Result<FullText, TextFa
 
 /// The head of the first line, and the lines behind it.
 fn read_lines(alloc: Global, line: &[u8], behind: &[u8]) -> Result<FullText, TextFault>
-    ensures { Gives TextFault.Memory (λ text. text) result (text_with (head_in line.now) (lines_of behind.now)) }
+    ensures { Gives TextFault.Memory (λ text. text) result (text_in_lines (a_line line.now (lines_of behind.now))) }
 {
     let head = read_head(alloc, line)?;
     read_rest(alloc, head, behind)

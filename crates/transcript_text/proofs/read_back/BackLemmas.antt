@@ -27,8 +27,8 @@ use Rattle.transcript_text.specs.FullLines.{HasWireForm, start_text, refereed_te
 use Rattle.transcript_text.specs.reader.TextLines.{Lines, tail, line, lines_of}
 use Rattle.transcript_text.specs.reader.Fields.{number_after, digest_in_hex, answer_in_hex, name_at}
 use Rattle.transcript_text.specs.reader.Entries.{head_in, settlement_in, move_in, status_at, output_in, accepted_in, string_in, collided_in, verdict_in, entry_in}
-use Rattle.transcript_text.specs.reader.ReadText.{is_prover, are_in_limits, head_with, line_read, later, text_in_lines, read_text}
-use Rattle.transcript_text.specs.Limits.{is_in_limit, provers_limit, bound_limit, patience_limit, version_limit, fan_limit}
+use Rattle.transcript_text.specs.reader.ReadText.{is_prover, head_of_numbers, head_with, line_read, later, text_in_lines, read_text}
+use Rattle.transcript_text.specs.Limits.{is_in_limit, provers_limit, bound_limit, patience_limit, version_limit, fan_limit, numbers_are_in_limits}
 use Rattle.transcript_text.specs.declared.limits.Limit.{Limit}
 use Rattle.transcript_text.specs.reader.InLimits.{AreBytes, IsWithin, IsHeadInLimits, IsMoveInLimits, AreMovesInLimits, IsString, IsStatedInLimits, IsInLimits}
 use Rattle.transcript_text.specs.reader.Laws.{stated_text, IsOfBytes, StatedVerdictsAreOneLine}
@@ -280,7 +280,7 @@ head-in-back h i small =
 holds-within : (l : Limit) (n : ℕ) → IsWithin l n → is_in_limit l n ≡ true
 holds-within l n i = (let a : l.least ≤ n = i.0 in let b : n ≤ l.most = i.1 in grind (arith, nat_tests))
 
-limits-hold : (h : Head) → IsHeadInLimits h → are_in_limits (numbers_of h) ≡ true
+limits-hold : (h : Head) → IsHeadInLimits h → numbers_are_in_limits (head_of_numbers (numbers_of h)) ≡ true
 limits-hold h i =
     rw (
       holds-within provers_limit h.provers i.provers,

@@ -14,8 +14,9 @@ use Rattle.transcript_text.specs.declared.reader.fault.LineFault.TheVariants.{No
 use Rattle.transcript_text.specs.declared.text.TextMove.{TextMove}
 use Rattle.transcript_text.specs.FullLines.{wire_text, settled_text}
 use Rattle.transcript_text.specs.reader.Fields.{behind_word, skip_word, small_number_at, answer_in_hex}
-use Rattle.transcript_text.specs.reader.Entries.{faulty_or_spent, given_or_not, settlement_in, move_in, coded, trapped_or_not, exited_or_not, running_or_not, status_at}
+use Rattle.transcript_text.specs.reader.Entries.{settlement_in, move_in, coded, status_at}
 use Rattle.transcript_text.proofs.read_back.SpellLemmas.{bind-ok, okay, ok-same, after-is, skip-is, small-is, answer-is, WireSpells}
+use Rattle.transcript_text.proofs.read_back.Forms.{faulty_or_spent, given_or_not, trapped_or_not, exited_or_not, running_or_not}
 
 -- what an answer is settled as
 

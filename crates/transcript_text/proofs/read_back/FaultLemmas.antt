@@ -12,7 +12,8 @@ use Rattle.transcript_text.specs.declared.reader.fault.LineFault.{LineFault}
 use Rattle.transcript_text.specs.declared.reader.fault.TextFault.{TextFault}
 use Rattle.transcript_text.specs.declared.reader.fault.TextFault.TheVariants.{BadHead, BadLine, Truncated, OutOfRange, Memory}
 use Rattle.transcript_text.specs.reader.Entries.{head_in, entry_in}
-use Rattle.transcript_text.specs.reader.ReadText.{are_in_limits, head_of_numbers, head_with, Later, is_prover, after_verdict, line_read, later, rest_with, text_in_lines, read_text}
+use Rattle.transcript_text.specs.Limits.{numbers_are_in_limits}
+use Rattle.transcript_text.specs.reader.ReadText.{head_of_numbers, head_with, Later, is_prover, after_verdict, line_read, later, rest_with, text_in_lines, read_text}
 use Rattle.transcript_text.specs.reader.TextLines.{Lines, tail, line, lines_of}
 
 -- a reading that doesn't end as out of memory
@@ -35,7 +36,7 @@ if-free false r s one other = other
 
 head-free : (r : Result HeadNumbers LineFault) → IsFree (head_with r)
 head-free (Err e) = err-free BadHead (λ is. cc is)
-head-free (Ok h) = if-free (are_in_limits h) (Ok (head_of_numbers h)) (Err (OutOfRange 1)) (ok-free (head_of_numbers h)) (err-free (OutOfRange 1) (λ is. cc is))
+head-free (Ok h) = if-free (numbers_are_in_limits (head_of_numbers h)) (Ok (head_of_numbers h)) (Err (OutOfRange 1)) (ok-free (head_of_numbers h)) (err-free (OutOfRange 1) (λ is. cc is))
 
 ended-free : (n : ℕ) (moves : List TextMove) (s : Stated) (ls : Lines) → IsFree (after_verdict n moves s ls)
 ended-free n moves s (tail t) = if-free (length t == 0) (Ok (moves, s)) (Err Truncated) (ok-free (moves, s)) (err-free Truncated (λ is. cc is))

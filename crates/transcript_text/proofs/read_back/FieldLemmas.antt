@@ -1,5 +1,6 @@
 -- What is written of a field is read back.
 use Rattle.std.proofs.Common.{◌≡◌, ◌≢◌, ℕ, zero, suc, ◌+◌, ◌-◌, ◌/◌, ◌%◌, ◌^◌, ◌<◌, ◌≤◌, nat_lt, true, false, ◌==◌, List, [], ◌∷◌, ◌++◌, length, slice_index, Contains, Some, Ok, refl, ◌∙◌, ap, arith, append_assoc}
+use Rattle.std.specs.Char.{is_ascii_digit}
 use Rattle.std.specs.Prelude.{decimal, slice_index_or}
 use Rattle.std.proofs.lemmas.Bool.Decides.{nat_tests}
 use Rattle.std.proofs.lemmas.Fmt.{decimal_by_steps}
@@ -7,7 +8,7 @@ use Rattle.std.proofs.lemmas.Bool.{and_parts}
 use Rattle.hex.specs.Hex.{encode_with, encode_lower, lower_digits}
 use Rattle.hex.proofs.HexLemmas.{decode_of-encode_lower}
 use Rattle.transcript_text.specs.reader.TextLines.{line, begun_with, lines_of, cut_front, cut_at}
-use Rattle.transcript_text.specs.reader.Fields.{is_digit, with_digit, digits_at, decimal_at, small_number_at, is_lower, are_lower, bytes_in_hex, some_bytes_in_hex}
+use Rattle.transcript_text.specs.reader.Fields.{with_digit, digits_at, decimal_at, small_number_at, is_lower, are_lower, bytes_in_hex, some_bytes_in_hex}
 use Rattle.transcript_text.specs.reader.InLimits.{AreBytes}
 
 pub eqb-same : (n : ℕ) → (n == n) ≡ true
@@ -18,18 +19,18 @@ eqb-same n = grind (arith, nat_tests)
 -- no digit stands at the front
 abbrev pub NoDigit : List ℕ → Type 0
 NoDigit [] = Unit {0}
-NoDigit (b ∷ bs) = is_digit b ≡ false
+NoDigit (b ∷ bs) = is_ascii_digit b ≡ false
 
 pub record IsNumeral (n : ℕ) (ds : List ℕ) : Type 0 where
   pub first : ℕ
   pub others : List ℕ
   pub is : ds ≡ first ∷ others
-  pub digit : is_digit first ≡ true
+  pub digit : is_ascii_digit first ≡ true
   pub lone : n ≡ 0 → (first ≡ 48) × (others ≡ [])
   pub lead : 0 < n → first ≢ 48
   pub reads : n < 4294967296 → (rest : List ℕ) → digits_at (first - 48) (others ++ rest) ≡ digits_at n rest
 
-digit-is : (b : ℕ) → 48 ≤ b → b ≤ 57 → is_digit b ≡ true
+digit-is : (b : ℕ) → 48 ≤ b → b ≤ 57 → is_ascii_digit b ≡ true
 digit-is b low high = grind (arith, nat_tests)
 
 numeral-one : (n : ℕ) → n < 10 → IsNumeral n ((48 + n) ∷ [])
@@ -48,7 +49,7 @@ one-digit-more n few = omega arith
 
 numeral-more : (n : ℕ) (ds : List ℕ) → 10 ≤ n → IsNumeral (n / 10) ds → IsNumeral n (ds ++ ((48 + n % 10) ∷ []))
 numeral-more n ds large i =
-    let d : is_digit (48 + n % 10) ≡ true = digit-is (48 + n % 10) (omega arith) (omega arith) in
+    let d : is_ascii_digit (48 + n % 10) ≡ true = digit-is (48 + n % 10) (omega arith) (omega arith) in
     record {
       first = i.first;
       others = i.others ++ (48 + n % 10) ∷ [];

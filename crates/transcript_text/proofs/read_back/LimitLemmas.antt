@@ -13,7 +13,7 @@ use Rattle.bisect_game.specs.declared.settled.Settled.{Settled}
 use Rattle.bisect_game.specs.declared.settled.Settled.TheVariants.{Given, Faulty, Spent}
 use Rattle.proof_wire.specs.Wire.{wire_form}
 use Rattle.proof_wire.specs.Reading.{answer_in}
-use Rattle.transcript_text.specs.Limits.{is_in_limit, provers_limit, bound_limit, patience_limit, version_limit, fan_limit}
+use Rattle.transcript_text.specs.Limits.{is_in_limit, provers_limit, bound_limit, patience_limit, version_limit, fan_limit, numbers_are_in_limits}
 use Rattle.transcript_text.specs.declared.limits.Limit.{Limit}
 use Rattle.transcript_text.specs.declared.text.Head.{Head}
 use Rattle.transcript_text.specs.declared.text.TextMove.{TextMove}
@@ -28,13 +28,14 @@ use Rattle.transcript_text.specs.declared.reader.entries.Entry.TheVariants.{Move
 use Rattle.transcript_text.specs.declared.reader.entries.HeadNumbers.{HeadNumbers}
 use Rattle.transcript_text.specs.reader.TextLines.{Lines, tail, line, lines_of, cut_at}
 use Rattle.transcript_text.specs.reader.Fields.{behind_word, skip_word, small_number_at, number_after, bytes_in_hex, some_bytes_in_hex, digest_in_hex, answer_in_hex, name_at}
-use Rattle.transcript_text.specs.reader.Entries.{head_in, faulty_or_spent, given_or_not, settlement_in, move_in, coded, trapped_or_not, exited_or_not, running_or_not, status_at, output_in, accepted_in, string_in, collided_in, collided_or_none, accepted_or_not, verdict_in, move_or_verdict, entry_in}
-use Rattle.transcript_text.specs.reader.ReadText.{is_prover, are_in_limits, head_of_numbers, head_with, after_verdict, line_read, later, rest_with, text_in_lines, read_text}
+use Rattle.transcript_text.specs.reader.Entries.{head_in, settlement_in, move_in, coded, status_at, output_in, accepted_in, string_in, collided_in, verdict_in, entry_in}
+use Rattle.transcript_text.specs.reader.ReadText.{is_prover, head_of_numbers, head_with, after_verdict, line_read, later, rest_with, text_in_lines, read_text}
 use Rattle.rd_base.specs.Status.{HasWordCode}
 use Rattle.transcript_text.specs.reader.InLimits.{AreBytes, IsWithin, IsHeadInLimits, IsMoveInLimits, AreMovesInLimits, IsString, IsStatedInLimits, IsInLimits}
 use Rattle.transcript_text.specs.FullLines.{HasWireForm}
 use Rattle.transcript_text.proofs.read_back.SpellLemmas.{bind-ok, okay, ok-same, or-ok, small-is, hex-is, some-hex-is, WireSpells}
 use Rattle.transcript_text.proofs.read_back.TextSpellLemmas.{AreWithin, are-within, pair-same, head-same, text-same}
+use Rattle.transcript_text.proofs.read_back.Forms.{faulty_or_spent, given_or_not, trapped_or_not, exited_or_not, running_or_not, collided_or_none, accepted_or_not, move_or_verdict}
 
 -- answers and what they are settled as
 
@@ -276,13 +277,13 @@ head-limits n w r = record {
   bytes = r.bytes;
 }
 
-head-by : (n : HeadNumbers) (h : Head) (c : Bool) → IsRoot n.start → are_in_limits n ≡ c → (if c then Ok (head_of_numbers n) else Err (OutOfRange 1)) ≡ Ok h → IsHeadInLimits h
+head-by : (n : HeadNumbers) (h : Head) (c : Bool) → IsRoot n.start → numbers_are_in_limits (head_of_numbers n) ≡ c → (if c then Ok (head_of_numbers n) else Err (OutOfRange 1)) ≡ Ok h → IsHeadInLimits h
 head-by n h true r is e = subst IsHeadInLimits (head-same (head_of_numbers n) h e) (head-limits n (are-within n is) r)
 head-by n h false r is e = absurd (cc)
 
 head-read : (bytes : List ℕ) (r : Result HeadNumbers LineFault) (h : Head) → head_in bytes ≡ r → head_with r ≡ Ok h → IsHeadInLimits h
 head-read bytes (Err f) h is e = absurd (cc)
-head-read bytes (Ok n) h is e = head-by n h (are_in_limits n) (start-read bytes n is) refl e
+head-read bytes (Ok n) h is e = head-by n h (numbers_are_in_limits (head_of_numbers n)) (start-read bytes n is) refl e
 
 -- the whole text
 

@@ -10,7 +10,7 @@ use Rattle.transcript_text.specs.declared.text.TextMove.{TextMove}
 use Rattle.transcript_text.specs.declared.text.Stated.{Stated}
 use Rattle.transcript_text.specs.reader.TextLines.{tail, line, lines_of, cut_at}
 use Rattle.transcript_text.specs.reader.Entries.{entry_in, head_in}
-use Rattle.transcript_text.specs.reader.ReadText.{is_prover, after_verdict, line_read, later, text_with, text_in_lines}
+use Rattle.transcript_text.specs.reader.ReadText.{is_prover, after_verdict, line_read, later, text_in_lines}
 use Rattle.transcript_text.proofs.read_back.LineLemmas.{lines_by, lines_cut}
 
 abbrev pub no_cut : Option (List ℕ × List ℕ)
@@ -74,7 +74,7 @@ ended_whole n ms s (b ∷ bytes) e = absurd (omega (arith, e))
 
 -- the whole text
 
-pub text_at : (bytes l b : List ℕ) → cut_to l b ≡ cut_at 10 bytes → text_in_lines (lines_of bytes) ≡ text_with (head_in l) (lines_of b)
+pub text_at : (bytes l b : List ℕ) → cut_to l b ≡ cut_at 10 bytes → text_in_lines (lines_of bytes) ≡ text_in_lines (line l (lines_of b))
 text_at bytes l b e = ap text_in_lines (lines_at bytes l b e)
 
 pub text_none : (bytes : List ℕ) → no_cut ≡ cut_at 10 bytes → text_in_lines (lines_of bytes) ≡ Err Truncated

@@ -1,5 +1,6 @@
 -- What is read is what the bytes spell: no other bytes are read.
 use Rattle.std.proofs.Common.{◌≡◌, ◌≢◌, ℕ, ◌+◌, ◌-◌, ◌*◌, ◌/◌, ◌%◌, ◌<◌, ◌≤◌, nat_le, nat_lt, Bool, true, false, ◌==◌, if◌then◌else◌, List, [], ◌∷◌, ◌++◌, length, Option, Some, None, Result, Ok, Err, inl, inr, refl, sym, ◌∙◌, ap, arith, subst, append-nil, append_assoc}
+use Rattle.std.specs.Char.{is_ascii_digit}
 use Rattle.std.specs.Prelude.{decimal}
 use Rattle.std.specs.Option.{ok_or}
 use Rattle.std.proofs.lemmas.Bool.Decides.{nat_tests}
@@ -8,7 +9,7 @@ use Rattle.std.proofs.lemmas.Fmt.{decimal_digit, decimal_step}
 use Rattle.hex.specs.Hex.{encode_lower, decode_of}
 use Rattle.transcript_text.proofs.read_back.HexSpellLemmas.{decoded-are, decoded-bytes}
 use Rattle.transcript_text.specs.reader.InLimits.{AreBytes}
-use Rattle.rd_base.specs.Results.{◌>>=◌}
+use Rattle.rd_base.specs.Results.{◌>>=◌, map_fault}
 use Rattle.rd_base.specs.declared.answer.Answer.{Answer}
 use Rattle.rd_base.specs.declared.digest.Digest32.{Digest32}
 use Rattle.proof_wire.specs.Wire.{Spells}
@@ -16,7 +17,7 @@ use Rattle.proof_wire.specs.Reading.{answer_in}
 use Rattle.transcript_text.specs.declared.reader.fault.LineFault.{LineFault}
 use Rattle.transcript_text.specs.declared.reader.fault.LineFault.TheVariants.{NoForm}
 use Rattle.transcript_text.specs.reader.TextLines.{Lines, tail, line, begun_with, lines_of, cut_front, cut_at}
-use Rattle.transcript_text.specs.reader.Fields.{behind_word, skip_word, is_digit, with_digit, digits_at, decimal_at, small_number_at, are_lower, or_no_form, bytes_in_hex, some_bytes_in_hex, digest_in_hex, answer_in_hex}
+use Rattle.transcript_text.specs.reader.Fields.{behind_word, skip_word, with_digit, digits_at, decimal_at, small_number_at, are_lower, bytes_in_hex, some_bytes_in_hex, digest_in_hex, answer_in_hex}
 use Rattle.transcript_text.specs.FullLines.{wire_text}
 
 pub is-eqb : (a b : ℕ) → (a == b) ≡ true → a ≡ b
@@ -53,14 +54,14 @@ skip-is word bytes rest e = after-is word bytes rest (skip-by (behind_word word 
 
 -- numbers
 
-digit-low : (b : ℕ) → is_digit b ≡ true → (48 ≤ b) × (b ≤ 57)
+digit-low : (b : ℕ) → is_ascii_digit b ≡ true → (48 ≤ b) × (b ≤ 57)
 digit-low b e = let parts : (nat_le 48 b ≡ true) × (nat_le b 57 ≡ true) = and_parts (nat_le 48 b) (nat_le b 57) e in (grind (arith, nat_tests), grind (arith, nat_tests))
 
 -- a number that is too large stays so
 large-stays : (bytes : List ℕ) → (digits_at 4294967296 bytes).0 ≡ 4294967296
 large-stays [] = refl
 large-stays (b ∷ bs) =
-    elim (cases_Bool (is_digit b)) [
+    elim (cases_Bool (is_ascii_digit b)) [
       | inl digit ↦ (let same : with_digit 4294967296 b ≡ 4294967296 = omega arith in rw (digit, same) (large-stays bs))
       | inr other ↦ rw other refl
     ]
@@ -77,7 +78,7 @@ continued-digit k b some low high few =
     let r : 48 + (10 * k + (b - 48)) % 10 ≡ b = omega arith in
     decimal_step (10 * k + (b - 48)) (omega arith) (omega arith) ∙ rw (q, r) refl
 
-continued-more : (k n b : ℕ) (bs rest : List ℕ) → 0 < k → is_digit b ≡ true → n < 4294967296 → digits_at (with_digit k b) bs ≡ (n, rest) →
+continued-more : (k n b : ℕ) (bs rest : List ℕ) → 0 < k → is_ascii_digit b ≡ true → n < 4294967296 → digits_at (with_digit k b) bs ≡ (n, rest) →
     (with_digit k b < 4294967296 → IsContinued (with_digit k b) n bs rest) → IsContinued k n (b ∷ bs) rest
 continued-more k n b bs rest some digit few e further =
     let range : (48 ≤ b) × (b ≤ 57) = digit-low b digit in
@@ -106,7 +107,7 @@ continued k n [] rest some few e =
     let none : [] ≡ rest = ap (λ (x : ℕ × List ℕ). x.1) e in
     record { digits = []; is = none; spelled = sym (append-nil (decimal k) ∙ ap decimal same) }
 continued k n (b ∷ bs) rest some few e =
-    elim (cases_Bool (is_digit b)) [
+    elim (cases_Bool (is_ascii_digit b)) [
       | inl digit ↦ continued-more k n b bs rest some digit few (rw digit at e) (λ small. continued (with_digit k b) n bs rest (omega arith) few (rw digit at e))
       | inr other ↦
           let stop : (k, b ∷ bs) ≡ (n, rest) = rw other at e in
@@ -115,7 +116,7 @@ continued k n (b ∷ bs) rest some few e =
           record { digits = []; is = left; spelled = sym (append-nil (decimal k) ∙ ap decimal same) }
     ]
 
-number-by : (n b : ℕ) (bs rest : List ℕ) (x y : Bool) → (b == 48) ≡ x → is_digit b ≡ y → n < 4294967296 →
+number-by : (n b : ℕ) (bs rest : List ℕ) (x y : Bool) → (b == 48) ≡ x → is_ascii_digit b ≡ y → n < 4294967296 →
     (if x then okay {E = LineFault} (0, bs) else if y then Ok (digits_at (b - 48) bs) else Err NoForm) ≡ Ok (n, rest) → b ∷ bs ≡ decimal n ++ rest
 number-by n b bs rest true y ex ey few e =
     let p : (0, bs) ≡ (n, rest) = ok-same (0, bs) (n, rest) e in
@@ -136,7 +137,7 @@ number-by n b bs rest false false ex ey few e = absurd (cc)
 pub number-is : (n : ℕ) (bytes rest : List ℕ) → decimal_at bytes ≡ Ok (n, rest) → n < 4294967296 → bytes ≡ decimal n ++ rest
 unfolding decimal_at
 number-is n [] rest e few = absurd (cc)
-number-is n (b ∷ bs) rest e few = number-by n b bs rest (b == 48) (is_digit b) refl refl few e
+number-is n (b ∷ bs) rest e few = number-by n b bs rest (b == 48) (is_ascii_digit b) refl refl few e
 
 pub record IsSmall (n : ℕ) (bytes rest : List ℕ) : Type 0 where
   pub few : n < 4294967296
@@ -157,7 +158,7 @@ small-is n bytes rest e =
 
 -- hexadecimal digits
 
-pub or-ok : {A E : Type 0} (r : Result A E) (x : A) → or_no_form r ≡ Ok x → r ≡ Ok x
+pub or-ok : {A E : Type 0} (r : Result A E) (x : A) → map_fault (λ e. NoForm) r ≡ Ok x → r ≡ Ok x
 or-ok (Ok y) x e = ap Ok (ok-same y x e)
 or-ok (Err f) x e = absurd (cc)
 
@@ -165,7 +166,7 @@ pub record IsHexOf (xs digits : List ℕ) : Type 0 where
   pub is : digits ≡ encode_lower xs
   pub bytes : AreBytes xs
 
-hex-by : (digits xs : List ℕ) (b : Bool) → are_lower digits ≡ b → (if b then or_no_form (decode_of digits) else Err NoForm) ≡ Ok xs → IsHexOf xs digits
+hex-by : (digits xs : List ℕ) (b : Bool) → are_lower digits ≡ b → (if b then map_fault (λ e. NoForm) (decode_of digits) else Err NoForm) ≡ Ok xs → IsHexOf xs digits
 hex-by digits xs true l e =
     let d : decode_of digits ≡ Ok xs = or-ok (decode_of digits) xs e in
     record { is = decoded-are digits xs l d; bytes = decoded-bytes digits xs d }

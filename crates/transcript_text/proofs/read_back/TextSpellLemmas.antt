@@ -1,7 +1,7 @@
 -- A text that is read is the text of what it is read as.
 use Rattle.std.proofs.Common.{◌≡◌, ℕ, ◌+◌, ◌<◌, ◌≤◌, nat_le, nat_lt, Bool, true, false, ◌&&◌, ◌==◌, if◌then◌else◌, List, [], ◌∷◌, ◌++◌, length, Option, Some, None, Result, Ok, Err, refl, sym, ◌∙◌, ap, arith, subst, append-nil, append_assoc}
 use Rattle.std.specs.Prelude.{codes, decimal, bytes_eq}
-use Rattle.std.specs.Option.{ok_or}
+use Rattle.std.specs.Option.{ok_or, option_map_or}
 use Rattle.std.proofs.lemmas.Bool.Decides.{nat_tests}
 use Rattle.std.proofs.lemmas.Slice.Eq.{bytes_eq-Decides}
 use Rattle.std.proofs.lemmas.Bool.{and_parts}
@@ -24,15 +24,16 @@ use Rattle.transcript_text.specs.declared.text.Stated.TheVariants as stated
 use Rattle.transcript_text.specs.declared.text.FullText.{FullText}
 use Rattle.transcript_text.specs.FullLines.{refereed_text, asked_text, settled_text, move_text, moves_text, text_of}
 use Rattle.transcript_text.specs.reader.TextLines.{Lines, tail, line, lines_of, cut_at}
-use Rattle.transcript_text.specs.reader.Fields.{behind_word, skip_word, decimal_at, number_after, bytes_in_hex, some_bytes_in_hex, digest_in_hex, name_or, name_among, name_at}
-use Rattle.transcript_text.specs.reader.Entries.{head_in, move_in, status_at, output_in, accepted_in, string_in, collided_in, collided_or_none, accepted_or_not, verdict_in, move_or_verdict, entry_in}
-use Rattle.transcript_text.specs.reader.ReadText.{is_prover, are_in_limits, head_of_numbers, head_with, after_verdict, line_read, later, rest_with, text_in_lines, read_text}
+use Rattle.transcript_text.specs.reader.Fields.{behind_word, skip_word, decimal_at, number_after, bytes_in_hex, some_bytes_in_hex, digest_in_hex, name_among, name_at}
+use Rattle.transcript_text.specs.reader.Entries.{head_in, move_in, status_at, output_in, accepted_in, string_in, collided_in, verdict_in, entry_in}
+use Rattle.transcript_text.specs.reader.ReadText.{is_prover, head_of_numbers, head_with, after_verdict, line_read, later, rest_with, text_in_lines, read_text}
 use Rattle.transcript_text.specs.reader.Laws.{stated_text}
-use Rattle.transcript_text.specs.Limits.{is_in_limit, provers_limit, bound_limit, patience_limit, version_limit, fan_limit}
+use Rattle.transcript_text.specs.Limits.{is_in_limit, provers_limit, bound_limit, patience_limit, version_limit, fan_limit, numbers_are_in_limits}
 use Rattle.transcript_text.specs.declared.limits.Limit.{Limit}
 use Rattle.transcript_text.proofs.read_back.SpellLemmas.{bind-ok, okay, ok-same, after-is, skip-is, number-is, some-hex-is, digest-is, joined, joined-lines, cut-is, WireSpells}
 use Rattle.transcript_text.proofs.read_back.EntrySpellLemmas.{move-spelled, move-is, status-is}
 use Rattle.transcript_text.proofs.read_back.BackLemmas.{stated-line, head-spelled, head-nested}
+use Rattle.transcript_text.proofs.read_back.Forms.{collided_or_none, accepted_or_not, move_or_verdict}
 
 -- the verdict
 
@@ -186,7 +187,7 @@ name-by : (ds : List DigestName) (bytes rest : List ℕ) (d : DigestName) → na
 name-by [] bytes rest d e = absurd (cc)
 name-by (x ∷ xs) bytes rest d e = by (behind_word (digest_text x) bytes) refl e (name-by xs bytes rest d)
   where
-    by : (o : Option (List ℕ)) → behind_word (digest_text x) bytes ≡ o → name_or x o (name_among xs bytes) ≡ Ok (d, rest) → (name_among xs bytes ≡ Ok (d, rest) → bytes ≡ digest_text d ++ rest) → bytes ≡ digest_text d ++ rest
+    by : (o : Option (List ℕ)) → behind_word (digest_text x) bytes ≡ o → option_map_or (λ rest. Ok (x, rest)) o (name_among xs bytes) ≡ Ok (d, rest) → (name_among xs bytes ≡ Ok (d, rest) → bytes ≡ digest_text d ++ rest) → bytes ≡ digest_text d ++ rest
     by (Some behind) is h further =
         let p : (x, behind) ≡ (d, rest) = ok-same (x, behind) (d, rest) h in
         after-is (digest_text x) bytes behind is ∙ ap (λ (y : DigestName × List ℕ). digest_text y.0 ++ y.1) p
@@ -258,7 +259,7 @@ pub record AreWithin (h : HeadNumbers) : Type 0 where
   pub version : is_in_limit version_limit h.version ≡ true
   pub fan : is_in_limit fan_limit h.fan ≡ true
 
-pub are-within : (h : HeadNumbers) → are_in_limits h ≡ true → AreWithin h
+pub are-within : (h : HeadNumbers) → numbers_are_in_limits (head_of_numbers h) ≡ true → AreWithin h
 are-within h e =
     let p1 : (is_in_limit provers_limit h.provers ≡ true) × ((is_in_limit bound_limit h.bound && (is_in_limit patience_limit h.patience && (is_in_limit version_limit h.version && is_in_limit fan_limit h.fan))) ≡ true) = and_parts _ _ e in
     let p2 : (is_in_limit bound_limit h.bound ≡ true) × ((is_in_limit patience_limit h.patience && (is_in_limit version_limit h.version && is_in_limit fan_limit h.fan)) ≡ true) = and_parts _ _ p1.1 in
@@ -266,7 +267,7 @@ are-within h e =
     let p4 : (is_in_limit version_limit h.version ≡ true) × (is_in_limit fan_limit h.fan ≡ true) = and_parts _ _ p3.1 in
     record { provers = p1.0; bound = p2.0; patience = p3.0; version = p4.0; fan = p4.1 }
 
-small-limits : (h : HeadNumbers) → are_in_limits h ≡ true → AreSmall h
+small-limits : (h : HeadNumbers) → numbers_are_in_limits (head_of_numbers h) ≡ true → AreSmall h
 small-limits h e =
     let w : AreWithin h = are-within h e in
     record {
@@ -282,9 +283,9 @@ head-same a b e = cc
 
 head-by : (bytes : List ℕ) (r : Result HeadNumbers LineFault) (h : Head) → head_in bytes ≡ r → head_with r ≡ Ok h → bytes ≡ refereed_text h
 head-by bytes (Err f) h is e = absurd (cc)
-head-by bytes (Ok n) h is e = by (are_in_limits n) refl e
+head-by bytes (Ok n) h is e = by (numbers_are_in_limits (head_of_numbers n)) refl e
   where
-    by : (c : Bool) → are_in_limits n ≡ c → (if c then Ok (head_of_numbers n) else Err (OutOfRange 1)) ≡ Ok h → bytes ≡ refereed_text h
+    by : (c : Bool) → numbers_are_in_limits (head_of_numbers n) ≡ c → (if c then Ok (head_of_numbers n) else Err (OutOfRange 1)) ≡ Ok h → bytes ≡ refereed_text h
     by true limits k = head-is bytes n is (small-limits n limits) ∙ (ap head-spelled (head-same (head_of_numbers n) h k) ∙ sym (head-nested h))
     by false limits k = absurd (cc)
 

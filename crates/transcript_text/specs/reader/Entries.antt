@@ -1,5 +1,5 @@
 -- To believe. The forms of a full text's lines: the head, a move, the verdict.
-use Rattle.std.specs.Prelude.{ℕ, nat_lt, List, [], ◌∷◌, length, Option, Some, None, Result, Ok, Err, codes, bytes_eq, if◌then◌else◌}
+use Rattle.std.specs.Prelude.{ℕ, nat_lt, List, [], ◌∷◌, length, Result, Ok, Err, codes, bytes_eq, if◌then◌else◌}
 use Rattle.std.specs.Option.{ok_or}
 use Rattle.rd_base.specs.declared.status.Status.{Status}
 use Rattle.rd_base.specs.declared.status.Status.TheVariants.{Running, Exited, Trapped}
@@ -15,7 +15,7 @@ use Rattle.transcript_text.specs.declared.reader.entries.Entry.{Entry}
 use Rattle.transcript_text.specs.declared.reader.entries.Entry.TheVariants.{Move, Verdict}
 use Rattle.transcript_text.specs.declared.reader.entries.HeadNumbers.{HeadNumbers}
 use Rattle.transcript_text.specs.reader.TextLines.{cut_at}
-use Rattle.transcript_text.specs.reader.Fields.{ReadField, behind_word, skip_word, small_number_at, number_after, some_bytes_in_hex, digest_in_hex, answer_in_hex, name_at}
+use Rattle.transcript_text.specs.reader.Fields.{ReadField, behind_or, skip_word, small_number_at, number_after, some_bytes_in_hex, digest_in_hex, answer_in_hex, name_at}
 
 -- THE HEAD: `refereed provers M bound N patience P version V fan F digest NAME start HEX`
 unfoldable pub head_in : List ℕ → Result HeadNumbers LineFault
@@ -33,16 +33,11 @@ head_in line = do
 
 -- A MOVE: `move D R pI given HEX`, `move D R pI faulty HEX` or `move D R pI spent`
 
-abbrev pub faulty_or_spent : List ℕ → Option (List ℕ) → Result Settled LineFault
-faulty_or_spent bytes (Some digits) = answer_in_hex digits >>= (λ a. Ok (Faulty a))
-faulty_or_spent bytes None = if bytes_eq bytes (codes "spent") then Ok Spent else Err NoForm
-
-abbrev pub given_or_not : List ℕ → Option (List ℕ) → Result Settled LineFault
-given_or_not bytes (Some digits) = answer_in_hex digits >>= (λ a. Ok (Given a))
-given_or_not bytes None = faulty_or_spent bytes (behind_word (codes "faulty ") bytes)
-
 unfoldable pub settlement_in : List ℕ → Result Settled LineFault
-settlement_in bytes = given_or_not bytes (behind_word (codes "given ") bytes)
+settlement_in bytes =
+    behind_or (codes "given ") bytes (λ digits. answer_in_hex digits >>= (λ a. Ok (Given a))) (
+    behind_or (codes "faulty ") bytes (λ digits. answer_in_hex digits >>= (λ a. Ok (Faulty a))) (
+    if bytes_eq bytes (codes "spent") then Ok Spent else Err NoForm))
 
 -- behind `move `
 unfoldable pub move_in : List ℕ → Result TextMove LineFault
@@ -61,20 +56,11 @@ move_in bytes = do
 abbrev pub coded : (ℕ → Status) → ℕ × List ℕ → Result (Status × List ℕ) LineFault
 coded status code = Ok (status code.0, code.1)
 
-abbrev pub trapped_or_not : Option (List ℕ) → ReadField Status
-trapped_or_not (Some code) = small_number_at code >>= coded Trapped
-trapped_or_not None = Err NoForm
-
-abbrev pub exited_or_not : List ℕ → Option (List ℕ) → ReadField Status
-exited_or_not bytes (Some code) = small_number_at code >>= coded Exited
-exited_or_not bytes None = trapped_or_not (behind_word (codes "trapped ") bytes)
-
-abbrev pub running_or_not : List ℕ → Option (List ℕ) → ReadField Status
-running_or_not bytes (Some rest) = Ok (Running, rest)
-running_or_not bytes None = exited_or_not bytes (behind_word (codes "exited ") bytes)
-
 unfoldable pub status_at : List ℕ → ReadField Status
-status_at bytes = running_or_not bytes (behind_word (codes "running") bytes)
+status_at bytes =
+    behind_or (codes "running") bytes (λ rest. Ok (Running, rest)) (
+    behind_or (codes "exited ") bytes (λ code. small_number_at code >>= coded Exited) (
+    behind_or (codes "trapped ") bytes (λ code. small_number_at code >>= coded Trapped) (Err NoForm)))
 
 unfoldable pub output_in : List ℕ → Result (List ℕ) LineFault
 output_in [] = Ok []
@@ -102,22 +88,12 @@ collided_in bytes = do
   second ← string_in both.1
   Ok (stated.Collision first second)
 
-abbrev pub collided_or_none : List ℕ → Option (List ℕ) → Result Stated LineFault
-collided_or_none bytes (Some rest) = collided_in rest
-collided_or_none bytes None = if bytes_eq bytes (codes "none left") then Ok stated.NoneLeft else Err NoForm
-
-abbrev pub accepted_or_not : List ℕ → Option (List ℕ) → Result Stated LineFault
-accepted_or_not bytes (Some rest) = accepted_in rest
-accepted_or_not bytes None = collided_or_none bytes (behind_word (codes "collision ") bytes)
-
 unfoldable pub verdict_in : List ℕ → Result Stated LineFault
-verdict_in bytes = accepted_or_not bytes (behind_word (codes "accept ") bytes)
+verdict_in bytes =
+    behind_or (codes "accept ") bytes accepted_in (
+    behind_or (codes "collision ") bytes collided_in (
+    if bytes_eq bytes (codes "none left") then Ok stated.NoneLeft else Err NoForm))
 
 -- a later line: a move or the verdict
-
-abbrev pub move_or_verdict : List ℕ → Option (List ℕ) → Result Entry LineFault
-move_or_verdict bytes (Some rest) = move_in rest >>= (λ x. Ok (Move x))
-move_or_verdict bytes None = verdict_in bytes >>= (λ s. Ok (Verdict s))
-
 unfoldable pub entry_in : List ℕ → Result Entry LineFault
-entry_in bytes = move_or_verdict bytes (behind_word (codes "move ") bytes)
+entry_in bytes = behind_or (codes "move ") bytes (λ rest. move_in rest >>= (λ x. Ok (Move x))) (verdict_in bytes >>= (λ s. Ok (Verdict s)))

@@ -6,7 +6,7 @@ use Rattle.transcript_text.specs.declared.text.Head.{Head}
 use Rattle.transcript_text.specs.declared.text.TextMove.{TextMove}
 use Rattle.transcript_text.specs.declared.text.Stated.{Stated}
 use Rattle.transcript_text.specs.declared.text.FullText.{FullText}
-use Rattle.transcript_text.specs.Limits.{is_in_limit, provers_limit, bound_limit, patience_limit, version_limit, fan_limit}
+use Rattle.transcript_text.specs.Limits.{numbers_are_in_limits}
 use Rattle.transcript_text.specs.declared.reader.fault.TextFault.{TextFault}
 use Rattle.transcript_text.specs.declared.reader.fault.TextFault.TheVariants.{BadHead, BadLine, Truncated, OutOfRange}
 use Rattle.transcript_text.specs.declared.reader.fault.LineFault.{LineFault}
@@ -18,16 +18,12 @@ use Rattle.transcript_text.specs.reader.Entries.{head_in, entry_in}
 
 -- LINE 1 has the form of a head, and then each of its numbers is within its limit
 
-abbrev pub are_in_limits : HeadNumbers → Bool
-are_in_limits h =
-    is_in_limit provers_limit h.provers && (is_in_limit bound_limit h.bound && (is_in_limit patience_limit h.patience && (is_in_limit version_limit h.version && is_in_limit fan_limit h.fan)))
-
 abbrev pub head_of_numbers : HeadNumbers → Head
 head_of_numbers h = record { provers = h.provers; bound = h.bound; patience = h.patience; version = h.version; fan = h.fan; digest = h.digest; start = h.start }
 
 abbrev pub head_with : Result HeadNumbers LineFault → Result Head TextFault
 head_with (Err e) = Err BadHead
-head_with (Ok h) = if are_in_limits h then Ok (head_of_numbers h) else Err (OutOfRange 1)
+head_with (Ok h) = if numbers_are_in_limits (head_of_numbers h) then Ok (head_of_numbers h) else Err (OutOfRange 1)
 
 -- LATER LINES, of this many provers: moves, and then the verdict, with whose line feed the text ends. What was read, or the first fault.
 
@@ -59,12 +55,9 @@ rest_with head ls = later head.provers 2 [] ls >>= (λ x. Ok (record { head = he
 
 -- THE WHOLE TEXT
 
-abbrev pub text_with : Result HeadNumbers LineFault → Lines → Result FullText TextFault
-text_with head ls = head_with head >>= (λ h. rest_with h ls)
-
 abbrev pub text_in_lines : Lines → Result FullText TextFault
 text_in_lines (tail t) = Err Truncated
-text_in_lines (line l ls) = text_with (head_in l) ls
+text_in_lines (line l ls) = head_with (head_in l) >>= (λ h. rest_with h ls)
 
 unfoldable pub read_text : List ℕ → Result FullText TextFault
 read_text bytes = text_in_lines (lines_of bytes)

@@ -2,7 +2,8 @@
 ghost use Rattle.std.specs.Prelude.{◌≡◌};
 ghost use Rattle.rd_base.specs.Results.{Gives};
 ghost use Rattle.transcript_text.specs.reader.Entries.{head_in, settlement_in, move_in, status_at, output_in, accepted_in, string_in, collided_in, verdict_in, entry_in};
-ghost use Rattle.transcript_text.specs.reader.ReadText.{are_in_limits, head_with};
+ghost use Rattle.transcript_text.specs.reader.ReadText.{head_of_numbers, head_with};
+ghost use Rattle.transcript_text.specs.Limits.{numbers_are_in_limits};
 
 use crate::limits;
 use crate::reader::fault::{LineFault, TextFault};
@@ -60,7 +61,7 @@ fn head_in(alloc: Global, line: &[u8]) -> Result<HeadNumbers, LineFault>
 
 /// Whether the numbers of a head are in their limits.
 fn are_in_limits(head: &HeadNumbers) -> bool
-    ensures { result ≡ are_in_limits head.now }
+    ensures { result ≡ numbers_are_in_limits (head_of_numbers head.now) }
 {
     limits::PROVERS.holds(head.provers)
         && limits::BOUND.holds(head.bound)
