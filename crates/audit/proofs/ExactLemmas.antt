@@ -27,13 +27,14 @@ use Rattle.audit.specs.declared.finding.Audit.TheVariants.{Confirmed, Refused}
 use Rattle.audit.specs.NextEntry.{next}
 use Rattle.audit.specs.LineByLine.{IsOfProver, AreOfProvers, is_right, is_move_of, cause_of, rules_of_head, is_this, end_of, audit_from, audited}
 use Rattle.audit.specs.BetweenLines.{fresh, passed_on}
-use Rattle.audit.specs.OwnMatch.{settled_by_lines, settled_answer, says_in, own_record, IsTextOf, ConfirmedExactly, CaseTextsAreConfirmed}
+use Rattle.audit.specs.OwnMatch.{settled_by_lines, says_in, own_record, IsTextOf, ConfirmedExactly, CaseTextsAreConfirmed}
 use Rattle.audit.proofs.PassLemmas.{same-number, begin_passing, passes-there, pass-counts, pass-spends, moved-pass, moved-settled, moved_more, moved_last, moved_once}
 use Rattle.audit.proofs.NextLemmas.{next_is_open, nobody_next}
 use Rattle.audit.proofs.StatedLemmas.{eqb-same, is-eqb, is-this}
 use Rattle.audit.proofs.LegalLemmas.{after_moves, IsLegalEntry, AllLegal, IsConfirmed, confirmed-played, Reaches, reach-on, settled-posts, fit-given, unfit-faulty, not-true}
 use Rattle.audit.proofs.OrderLemmas.{move_on, all-none, none-moves}
 use Rattle.audit.proofs.GrowLemmas.{IsInOrder, order-nothing, IsLonger, grows, next-prover, AreOther, other-found, unseen}
+use Rattle.tournament.specs.OfCases.{answer_held}
 
 -- MOVES OF THE TEXT'S OWN PROVERS
 
@@ -102,7 +103,7 @@ settle-turns rules says t p q None some few asked is =
 
 -- CONFIRMED, SO IT IS THE TEXT OF ITS OWN MATCH
 
-as-said : (rules : Rules) (q : Question) (s : Settled) → is_right rules q.kind s ≡ true → settled_as rules q (settled_answer (Some s)) ≡ s
+as-said : (rules : Rules) (q : Question) (s : Settled) → is_right rules q.kind s ≡ true → settled_as rules q (answer_held (Some s)) ≡ s
 as-said rules q (Given a) right = fit-given rules q a right
 as-said rules q (Faulty a) right = unfit-faulty rules q a (not-true _ right)
 as-said rules q Spent right = refl
@@ -132,10 +133,10 @@ line-turns rules all done rest m t whole is order here legal =
     let same : q.qid ≡ m.qid = qid-is q.qid m.qid legal.numbered in
     let other : AreOther m.prover q.qid done = subst (AreOther m.prover q.qid) is (unseen rules t m.prover q order legal.is_next) in
     let line : settled_by_lines m.prover q.qid all ≡ Some m.settled = ap (settled_by_lines m.prover q.qid) (sym whole) ∙ found-line m.prover q.qid done m rest other refl (sym same) in
-    let says : (n : ℕ) → says_in all m.prover q n ≡ settled_answer (Some m.settled) = λ n. ap settled_answer line in
-    let s : settled_as rules q (settled_answer (Some m.settled)) ≡ m.settled = as-said rules q m.settled legal.right in
-    let turn_ : IsPlayedTo rules (says_in all) (fresh rules t) (fresh rules (settle rules m.prover (settled_as rules q (settled_answer (Some m.settled))) t)) 1 =
-    settle-turns rules (says_in all) t m.prover q (settled_answer (Some m.settled)) here.0 here.1 (next_is_open rules t m.prover q legal.is_next) says in
+    let says : (n : ℕ) → says_in all m.prover q n ≡ answer_held (Some m.settled) = λ n. ap answer_held line in
+    let s : settled_as rules q (answer_held (Some m.settled)) ≡ m.settled = as-said rules q m.settled legal.right in
+    let turn_ : IsPlayedTo rules (says_in all) (fresh rules t) (fresh rules (settle rules m.prover (settled_as rules q (answer_held (Some m.settled))) t)) 1 =
+    settle-turns rules (says_in all) t m.prover q (answer_held (Some m.settled)) here.0 here.1 (next_is_open rules t m.prover q legal.is_next) says in
     let longer : IsLonger rules t (settle rules m.prover m.settled t) (move_on m.prover q m.settled) = grows rules m.prover q m.settled t order legal.is_next in
     let entry : move_on m.prover q m.settled ≡ m = ap (λ (x : Qid). let y : TextMove = record { qid = x; prover = m.prover; settled = m.settled } in y) same in
     record {
@@ -355,20 +356,20 @@ case-driven of_case enough most over rules says playable =
 
 pub case-confirmed : RecordOfCase → SpareIsEnough → ThereIsAMost → NobodyAskedIsOver → CaseTextsAreConfirmed
 unfolding audited
-case-confirmed of_case enough most over ruling says text playable is_text =
+case-confirmed of_case enough most over ruling says text playable moves stated =
     let rules : Rules = rules_of_head ruling text.head in
     let c : IsCaseDriven rules says = case-driven of_case enough most over rules says playable in
-    let own : c.driven.rest ≡ text.moves = sym (ap (λ (xs : List TextMove). xs ++ c.driven.rest) (nothing-moves rules)) ∙ (sym c.driven.moves ∙ (ap moves_of c.same ∙ sym is_text.moves)) in
+    let own : c.driven.rest ≡ text.moves = sym (ap (λ (xs : List TextMove). xs ++ c.driven.rest) (nothing-moves rules)) ∙ (sym c.driven.moves ∙ (ap moves_of c.same ∙ sym moves)) in
     let legal : AllLegal rules text.moves (nothing_settled rules) = subst (λ (xs : List TextMove). AllLegal rules xs (nothing_settled rules)) own c.driven.legal in
     let at : after_moves rules text.moves (nothing_settled rules) ≡ bracket rules (answers_of rules says) = ap (λ (xs : List TextMove). after_moves rules xs (nothing_settled rules)) (sym own) ∙ c.same in
     let complete : is_complete (bracket rules (answers_of rules says)) ≡ true = rw c.same at c.driven.complete in
     let n = legal-audits rules 2 text.moves text.stated (nothing_settled rules) legal in
-    ◌∙◌ {b = end_of rules n.0 text.stated (after_moves rules text.moves (nothing_settled rules))} n.1 (ends-confirmed rules n.0 text.stated (after_moves rules text.moves (nothing_settled rules)) (verdict_of rules (bracket rules (answers_of rules says))) (rw at complete) (rw at refl) (rw at is_text.stated))
+    ◌∙◌ {b = end_of rules n.0 text.stated (after_moves rules text.moves (nothing_settled rules))} n.1 (ends-confirmed rules n.0 text.stated (after_moves rules text.moves (nothing_settled rules)) (verdict_of rules (bracket rules (answers_of rules says))) (rw at complete) (rw at refl) (rw at stated))
 
 own-confirmed : RecordOfCase → SpareIsEnough → ThereIsAMost → NobodyAskedIsOver → (ruling : Ruling) (text : FullText) (v : Verdict) → let rules : Rules = rules_of_head ruling text.head in
     ArePlayable rules → IsTextOf rules text v → audited ruling text ≡ Confirmed v
 own-confirmed of_case enough most over ruling text v playable own =
-    case-confirmed of_case enough most over ruling (says_in text.moves) text playable (record { moves = sym own.moves; stated = rw own.verdict own.stated }) ∙ ap Confirmed own.verdict
+    case-confirmed of_case enough most over ruling (says_in text.moves) text playable (sym own.moves) (rw own.verdict own.stated) ∙ ap Confirmed own.verdict
 
 pub confirmed_exactly : RecordOfCase → SpareIsEnough → ThereIsAMost → NobodyAskedIsOver → ConfirmedExactly
 confirmed_exactly of_case enough most over ruling text v playable of =

@@ -45,5 +45,5 @@ written-confirmed of_case enough most over back ruling says head limits written 
       head_is = refl;
       stated_is = b.of_verdict;
       read = b.read;
-      confirmed = case-confirmed of_case enough most over ruling says (text_parts head r b.stated) playable (record { moves = refl; stated = b.of_verdict });
+      confirmed = case-confirmed of_case enough most over ruling says (text_parts head r b.stated) playable refl b.of_verdict;
     }

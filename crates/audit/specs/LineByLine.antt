@@ -7,12 +7,11 @@ use Rattle.bisect_game.specs.declared.settled.Question.{Question}
 use Rattle.bisect_game.specs.declared.settled.Settled.{Settled}
 use Rattle.bisect_game.specs.declared.settled.Settled.TheVariants.{Given, Faulty, Spent}
 use Rattle.bisect_game.specs.Ruling.{Ruling}
-use Rattle.bisect_game.specs.Rules.{Rules, is_fit}
+use Rattle.bisect_game.specs.Rules.{Rules, is_fit, rules_of}
 use Rattle.bisect_game.specs.Setup.{Setup}
 use Rattle.tournament.specs.declared.reading.Verdict.{Verdict}
 use Rattle.tournament.specs.Bracket.{Record, nothing_settled, is_complete, settle, verdict_of}
 use Rattle.rd_base.specs.Questions.{same_qid}
-use Rattle.bisect_game.specs.Rules.{rules_of}
 use Rattle.transcript_text.specs.declared.text.Head.{Head}
 use Rattle.transcript_text.specs.declared.text.TextMove.{TextMove}
 use Rattle.transcript_text.specs.declared.text.Stated.{Stated}
@@ -24,6 +23,7 @@ use Rattle.audit.specs.declared.finding.Cause.TheVariants.{NotAsked, OtherReply,
 use Rattle.audit.specs.declared.finding.Audit.{Audit}
 use Rattle.audit.specs.declared.finding.Audit.TheVariants.{Confirmed, Refused}
 use Rattle.audit.specs.NextEntry.{next}
+use Rattle.std.specs.Option.{option_map_or}
 
 -- the numbers by which the match of a head is played
 abbrev pub setup_of_head : Head → Setup
@@ -70,8 +70,7 @@ same_stated (stated.Collision x y) (stated.Collision a b) = bytes_eq x a && byte
 same_stated _ _ = false
 
 abbrev pub is_this : Option Stated → Stated → Bool
-is_this (Some s) said = same_stated s said
-is_this None said = false
+is_this s said = option_map_or (λ s. same_stated s said) s false
 
 -- the verdict of a match with these claims is stated so
 abbrev pub is_stated : List (Option Settled) → Verdict → Stated → Bool

@@ -1,9 +1,7 @@
 -- To believe. What a confirmed text is: the full text of the match whose provers say what the text says.
 use Rattle.std.specs.Prelude.{◌≡◌, ◌↔◌, ℕ, true, ◌&&◌, ◌==◌, List, [], ◌∷◌, Option, Some, None, Ok, if◌then◌else◌}
-use Rattle.rd_base.specs.declared.answer.Answer.{Answer}
 use Rattle.rd_base.specs.declared.answer.Qid.{Qid}
 use Rattle.bisect_game.specs.declared.settled.Settled.{Settled}
-use Rattle.bisect_game.specs.declared.settled.Settled.TheVariants.{Given, Faulty, Spent}
 use Rattle.bisect_game.specs.Says.{Says}
 use Rattle.bisect_game.specs.Ruling.{Ruling}
 use Rattle.bisect_game.specs.Rules.{Rules, ArePlayable}
@@ -22,21 +20,16 @@ use Rattle.transcript_text.specs.reader.InLimits.{IsHeadInLimits}
 use Rattle.transcript_text.specs.reader.Laws.{HasStrings}
 use Rattle.audit.specs.declared.finding.Audit.TheVariants.{Confirmed}
 use Rattle.audit.specs.LineByLine.{rules_of_head, AreOfProvers, audited}
+use Rattle.tournament.specs.OfCases.{answer_held}
 
 -- what a prover's answer to the question with a number is settled as, by the first such line
 abbrev pub settled_by_lines : ℕ → Qid → List TextMove → Option Settled
 settled_by_lines p qid [] = None
 settled_by_lines p qid (m ∷ ms) = if (m.prover == p) && same_qid m.qid qid then Some m.settled else settled_by_lines p qid ms
 
-abbrev pub settled_answer : Option Settled → Option Answer
-settled_answer (Some (Given a)) = Some a
-settled_answer (Some (Faulty a)) = Some a
-settled_answer (Some Spent) = None
-settled_answer None = None
-
 -- the provers of a text: each gives the answer that the text has of it, and passes for ever if there is none
 abbrev pub says_in : List TextMove → Says
-says_in ms p q passes = settled_answer (settled_by_lines p q.qid ms)
+says_in ms p q passes = answer_held (settled_by_lines p q.qid ms)
 
 -- THE TEXT'S OWN MATCH: the bracket over these very moves
 abbrev pub own_record : Rules → List TextMove → Record
@@ -56,18 +49,14 @@ ConfirmedExactly =
     let rules : Rules = rules_of_head ruling text.head in
     ArePlayable rules → AreOfProvers rules.setup.provers text.moves → (audited ruling text ≡ Confirmed v) ↔ IsTextOf rules text v
 
--- the text of a case's record: its moves, and what is stated of its verdict
-pub record IsTextOfRecord (rules : Rules) (r : Record) (text : FullText) : Type 0 where
-  pub moves : text.moves ≡ moves_of r
-  pub stated : stated_of r.claims (verdict_of rules r) ≡ Some text.stated
-
--- the full text of every case is confirmed, with its verdict, whatever its provers say
+-- the full text of every case, which has the moves of its record and states its verdict, is confirmed, whatever its provers say
 abbrev pub CaseTextsAreConfirmed : Type 0
 CaseTextsAreConfirmed =
     (ruling : Ruling) (says : Says) (text : FullText) →
     let rules : Rules = rules_of_head ruling text.head in
     let r : Record = bracket rules (answers_of rules says) in
-    ArePlayable rules → IsTextOfRecord rules r text → audited ruling text ≡ Confirmed (verdict_of rules r)
+    ArePlayable rules → text.moves ≡ moves_of r → stated_of r.claims (verdict_of rules r) ≡ Some text.stated →
+    audited ruling text ≡ Confirmed (verdict_of rules r)
 
 -- and so are its bytes: what `full` writes of a case's record is read, and the text that is read, of this head and verdict, is confirmed.
 -- Its premises are those of reading: the numbers of the head are within the limits, the answers have wire forms, and a collision has

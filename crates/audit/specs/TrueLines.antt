@@ -1,8 +1,6 @@
 -- To believe. A prover whose lines in a text are all given and true, and what a confirmed text is worth with one.
-use Rattle.std.specs.Prelude.{◌≡◌, ℕ, ◌<◌, ◌≤◌, List, [], ◌∷◌, Some, ◌⊎◌, All}
-use Rattle.rd_base.specs.declared.answer.Answer.{Answer}
+use Rattle.std.specs.Prelude.{◌≡◌, ℕ, ◌<◌, ◌≤◌, List, Some, All}
 use Rattle.bisect_game.specs.declared.settled.Kind.{Kind}
-use Rattle.bisect_game.specs.declared.settled.Settled.TheVariants.{Given}
 use Rattle.bisect_game.specs.Ruling.{Ruling, IsFair}
 use Rattle.bisect_game.specs.Rules.{Rules, ArePlayable}
 use Rattle.bisect_game.specs.Truth.{Truth, IsRun, IsTrueSettled}
