@@ -27,11 +27,11 @@ use Rattle.tournament.specs.Posting.{Post, posted, after_posts, record_after}
 use Rattle.tournament.specs.TrueMoves.{IsTrueMove, MovesTruly}
 use Rattle.step_referee.specs.MachineRuling.{machine_ruling}
 use Rattle.step_referee.specs.MachineTruth.{machine_truth}
-use Rattle.machine_audit.specs.MachineAudit.{IsStatedStart}
+use Rattle.machine_audit.specs.MachineAudit.{IsStatedStart, machine_rules}
 use Rattle.image_reader.specs.Image.{Image}
 use Rattle.rv_step.specs.Loaded.{started}
 use Rattle.case_reader.specs.Case.{CaseData}
-use Rattle.open_match.specs.Laws.{machine_rules, HeadsArePlayable, HeadsHaveShortRuns, OpenMatchesAreRight, TrueAnswersHaveWireForms}
+use Rattle.open_match.specs.Laws.{HeadsArePlayable, HeadsHaveShortRuns, OpenMatchesAreRight, TrueAnswersHaveWireForms}
 use Rattle.delegate.specs.Loading.{within_limit, case_or_refusal, image_or_refusal, start_or_refusal}
 use Rattle.delegate.specs.Outcome.{either_way}
 use Rattle.delegate.specs.Refusal.{too_long}

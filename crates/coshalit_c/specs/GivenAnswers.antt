@@ -14,8 +14,7 @@ use Rattle.tournament.specs.Moves.{MatchState, begun, passes_of}
 use Rattle.tournament.specs.Posting.{Post, posted, record_after}
 use Rattle.case_reader.specs.Case.{CaseData}
 use Rattle.open_match.specs.Log.{IsLogOf}
-use Rattle.open_match.specs.OpenMatch.{numbers_are_in_limits}
-use Rattle.open_match.specs.Laws.{machine_rules, IsSafeAndRight}
+use Rattle.open_match.specs.Laws.{IsSafeAndRight}
 use Rattle.delegate.specs.Loading.{within_limit, case_or_refusal, start_or_refusal}
 use Rattle.delegate.specs.OfCase.{start_response, response_by}
 use Rattle.delegate.specs.declared.response.Subject.TheVariants.{Whole}
@@ -26,6 +25,8 @@ use Rattle.coshalit_c.specs.declared.numbers.CoshalitNumbers.{CoshalitNumbers}
 use Rattle.coshalit_c.specs.Asked.{question_to}
 use Rattle.coshalit_c.specs.HostMatch.{head_of_match}
 use Rattle.coshalit_c.specs.Questions.{kind_numbered, response_on}
+use Rattle.transcript_text.specs.Limits.{numbers_are_in_limits}
+use Rattle.machine_audit.specs.MachineAudit.{machine_rules}
 
 -- A MATCH OF A CASE. The case of the bytes is read and loaded, and its run starts in a valid state, as the clause `valid` of
 -- `coshalit_start_root` says. The match has the version and the bound of the case, and the root that `coshalit_start_root` gives of it

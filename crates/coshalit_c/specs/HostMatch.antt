@@ -16,7 +16,6 @@ use Rattle.audit.specs.OwnMatch.{IsReadAndConfirmed}
 use Rattle.proof_wire.specs.Fault.{wire_rule}
 use Rattle.open_match.specs.OpenMatch.{IsAfterLog}
 use Rattle.open_match.specs.Log.{IsNoLogAt}
-use Rattle.open_match.specs.Laws.{machine_rules}
 use Rattle.open_match.specs.declared.entry.EntryFault.{EntryFault}
 use Rattle.open_match.specs.declared.entry.EntryFault.TheVariants as no_entry
 use Rattle.coshalit_c.specs.declared.asked.CoshalitQuestion.{CoshalitQuestion}
@@ -24,6 +23,7 @@ use Rattle.coshalit_c.specs.declared.numbers.CoshalitNumbers.{CoshalitNumbers}
 use Rattle.coshalit_c.specs.declared.found.CoshalitMatch.{CoshalitMatch}
 use Rattle.coshalit_c.specs.declared.texts.CoshalitAnswer.{CoshalitAnswer}
 use Rattle.coshalit_c.specs.Asked.{asked_of}
+use Rattle.machine_audit.specs.MachineAudit.{machine_rules}
 
 -- the head of these numbers: the digest is SHA-256
 abbrev pub head_of_match : CoshalitNumbers → Head

@@ -8,11 +8,12 @@ use Rattle.deposits.specs.declared.amounts.Balances.{Balances}
 use Rattle.deposits.specs.Balances.{balances_of}
 use Rattle.deposits.specs.Burning.{balances_if_burned}
 use Rattle.transcript_text.specs.declared.text.Head.{Head}
-use Rattle.open_match.specs.OpenMatch.{numbers_are_in_limits, IsAfterLog}
-use Rattle.open_match.specs.Laws.{machine_rules}
+use Rattle.open_match.specs.OpenMatch.{IsAfterLog}
 use Rattle.coshalit_c.specs.HostMatch.{status_of_match}
 use Rattle.coshalit_c.specs.declared.stakes.Settlement.{Settlement}
 use Rattle.coshalit_c.specs.declared.stakes.Settlement.TheVariants.{Ledger, Burning}
+use Rattle.transcript_text.specs.Limits.{numbers_are_in_limits}
+use Rattle.machine_audit.specs.MachineAudit.{machine_rules}
 
 -- what each prover has by a settlement, and what is in the pool or burned
 abbrev pub balances_by : Settlement → ℕ → ℕ → Record → Balances

@@ -2,9 +2,9 @@
 ghost use Rattle.std.specs.Prelude.{◌≡◌, ◌≢◌, true, false};
 ghost use Rattle.audit.specs.LineByLine.{setup_of_head};
 ghost use Rattle.tournament.specs.Bracket.{is_complete};
-ghost use Rattle.open_match.specs.OpenMatch.{numbers_are_in_limits};
 ghost use Rattle.coshalit_c.specs.Texts.{IsUntouched};
 ghost use Rattle.coshalit_c.specs.HostMatch.{head_of_match, IsTextOfMatch, IsTextFound, IsStillOpen, IsNoLogAnywhere};
+ghost use Rattle.transcript_text.specs.Limits.{numbers_are_in_limits};
 
 use crate::found::{BAD_LOG, BAD_NUMBERS, OUT_OF_MEMORY, STILL_OPEN, ending};
 use crate::numbers::{CoshalitNumbers, head_of};

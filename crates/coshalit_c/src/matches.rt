@@ -1,8 +1,8 @@
 //! A match among a host's own parties: what it has come to after a log of posts.
 ghost use Rattle.std.specs.Prelude.{◌≡◌, ◌≢◌, ◌≤◌, false, IfOk, IfErr};
 ghost use Rattle.tournament.specs.Match.{rules_in};
-ghost use Rattle.open_match.specs.OpenMatch.{numbers_are_in_limits};
 ghost use Rattle.coshalit_c.specs.HostMatch.{head_of_match, IsMatchWritten, IsMatchFound, IsNoLogFound};
+ghost use Rattle.transcript_text.specs.Limits.{numbers_are_in_limits};
 
 use crate::asked::{CoshalitQuestion, questions, write_questions};
 use crate::found::{

@@ -16,7 +16,7 @@ use Rattle.transcript_text.specs.reader.Laws.{ReadsExactly}
 use Rattle.audit.specs.Auditable.{MayBeAudited, ReadTextsMayBeAudited}
 use Rattle.audit.specs.LineByLine.{rules_of_head}
 use Rattle.audit.specs.TrueLines.{IsRightStated, ConfirmedTextIsRight}
-use Rattle.machine_audit.specs.MachineAudit.{rules_of_text, IsAnswerOrCollision, ConfirmedCasesAreRight}
+use Rattle.machine_audit.specs.MachineAudit.{machine_rules, IsAnswerOrCollision, ConfirmedCasesAreRight}
 
 -- what the machine's law says
 abbrev pub RunsAreTrue : (List ℕ → List ℕ) → Type 0
@@ -25,7 +25,7 @@ RunsAreTrue digest =
     IsRun rules (machine_truth digest s rules.setup.bound)
 
 answer-of : (digest : List ℕ → List ℕ) (text : FullText) (s : State) (said : Stated)
-    → IsRightStated (rules_of_text digest text) (machine_truth digest s text.head.bound) text.moves said → IsStatedInLimits said → IsAnswerOrCollision digest text s said
+    → IsRightStated (machine_rules digest text.head) (machine_truth digest s text.head.bound) text.moves said → IsStatedInLimits said → IsAnswerOrCollision digest text s said
 answer-of digest text s (Accept status output) right within = right
 answer-of digest text s NoneLeft right within = right
 answer-of digest text s (Collision x y) right within = (right, (within.0.2, within.1.2))

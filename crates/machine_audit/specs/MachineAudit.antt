@@ -27,20 +27,20 @@ pub record IsStatedStart (digest : List ℕ → List ℕ) (head : Head) (s : Sta
   pub version : s.version ≡ head.version
   pub root : head.start.0 ≡ root_in digest head.version s
 
--- the rules by which the match of a text is played: the machine in the head's version judges
-abbrev pub rules_of_text : (List ℕ → List ℕ) → FullText → Rules
-rules_of_text digest text = rules_of_head (machine_ruling digest text.head.version) text.head
+-- the rules by which the match of a head is played: the machine in the head's version judges
+abbrev pub machine_rules : (List ℕ → List ℕ) → Head → Rules
+machine_rules digest head = rules_of_head (machine_ruling digest head.version) head
 
 -- a prover's lines are all given, and true of the run from a state over the stated bound
 abbrev pub AreTrueOfRun : (List ℕ → List ℕ) → FullText → State → ℕ → Type 0
-AreTrueOfRun digest text s p = AreTrueLines (rules_of_text digest text) (machine_truth digest s text.head.bound) p text.moves
+AreTrueOfRun digest text s p = AreTrueLines (machine_rules digest text.head) (machine_truth digest s text.head.bound) p text.moves
 
 -- the status and the output in the state at the bound, or two different strings of bytes with one digest, each opened in the text's own match
 abbrev pub IsAnswerOrCollision : (List ℕ → List ℕ) → FullText → State → Stated → Type 0
 IsAnswerOrCollision digest text s (Accept status output) = (status ≡ (state_at s text.head.bound).status) × (output ≡ (state_at s text.head.bound).output)
 IsAnswerOrCollision digest text s NoneLeft = ⊥
 IsAnswerOrCollision digest text s (Collision x y) =
-    IsCollisionIn (rules_of_text digest text) (own_record (rules_of_text digest text) text.moves) (x, y) × (AreBytes x × AreBytes y)
+    IsCollisionIn (machine_rules digest text.head) (own_record (machine_rules digest text.head) text.moves) (x, y) × (AreBytes x × AreBytes y)
 
 -- of bytes that are read as a text, which is confirmed before the judge of the machine in the head's version
 abbrev pub ConfirmedCasesAreRight : (List ℕ → List ℕ) → Type 0

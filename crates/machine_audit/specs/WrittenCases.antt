@@ -12,8 +12,8 @@ use Rattle.transcript_text.specs.MoveLists.{moves_of}
 use Rattle.transcript_text.specs.FullLines.{AreWritten}
 use Rattle.transcript_text.specs.reader.InLimits.{IsHeadInLimits}
 use Rattle.transcript_text.specs.reader.Laws.{HasStrings}
-use Rattle.audit.specs.LineByLine.{rules_of_head}
 use Rattle.audit.specs.OwnMatch.{IsReadAndConfirmed}
+use Rattle.machine_audit.specs.MachineAudit.{machine_rules}
 
 -- of each record to which posts come, by anybody and with any contents: if its answers have wire forms, each of the two strings of a
 -- collision has 1 to 129 bytes
@@ -35,5 +35,5 @@ CollisionsOfCasesHaveStrings digest =
 abbrev pub MachineCasesAreConfirmed : (List ℕ → List ℕ) → Type 0
 MachineCasesAreConfirmed digest =
     (says : Says) (head : Head) →
-    let r : Record = bracket (rules_of_head (machine_ruling digest head.version) head) (answers_of (rules_of_head (machine_ruling digest head.version) head) says) in
+    let r : Record = bracket (machine_rules digest head) (answers_of (machine_rules digest head) says) in
     IsHeadInLimits head → AreWritten (moves_of r) → IsReadAndConfirmed (machine_ruling digest head.version) head r

@@ -23,8 +23,9 @@ use Rattle.transcript_text.specs.declared.text.Head.{Head}
 use Rattle.transcript_text.specs.declared.text.Stated.{Stated}
 use Rattle.transcript_text.specs.declared.text.Stated.TheVariants.{Accept}
 use Rattle.transcript_text.specs.StatedVerdict.{stated_of, VerdictsAreStated}
-use Rattle.open_match.specs.Laws.{machine_rules, run_of_head, AcceptsRunOrCollides, OpenMatchesAreRight}
+use Rattle.open_match.specs.Laws.{AcceptsRunOrCollides, OpenMatchesAreRight}
 use Rattle.open_match.proofs.HeadLemmas.{playable, short}
+use Rattle.machine_audit.specs.MachineAudit.{machine_rules}
 
 -- what the machine's law says
 abbrev pub RunsAreTrue : (List ℕ → List ℕ) → Type 0
@@ -41,8 +42,8 @@ accepted claims (suc k) c s is there =
     rw at refl
 
 right-by : (digest : List ℕ → List ℕ) (head : Head) (s : State) (r : Record) (v : Verdict) (said : Stated) → stated_of r.claims v ≡ Some said →
-    IsRightVerdict (machine_rules digest head) (run_of_head digest head s) r v → AcceptsRunOrCollides digest head s r v
-right-by digest head s r (verdict.Accept n) said there right = accepted r.claims n (run_of_head digest head s).claim said right there
+    IsRightVerdict (machine_rules digest head) (machine_truth digest s head.bound) r v → AcceptsRunOrCollides digest head s r v
+right-by digest head s r (verdict.Accept n) said there right = accepted r.claims n (machine_truth digest s head.bound).claim said right there
 right-by digest head s r verdict.NoneLeft said there right = right
 right-by digest head s r (verdict.Collision x y) said there right = right
 
@@ -52,8 +53,8 @@ right digest is_digest runs safe stated head log xs s p limits logged start some
     let room : length s.output + head.bound < 2 ^ 64 = (let none : length s.output ≡ 0 = ap length start.silent in omega (arith, none, short head limits)) in
     let run : IsRun rules (machine_truth digest s head.bound) =
     runs s rules start.valid room (ap (machine_ruling digest) (sym start.version)) (start.root ∙ ap (λ v. root_in digest v s) (sym start.version)) in
-    let kept : IsSafe rules (run_of_head digest head s) p (record_after rules xs) =
-    safe rules (run_of_head digest head s) xs p (playable (machine_ruling digest head.version) head limits) (machine_ruling_is_fair digest is_digest head.version) run some known truly in
+    let kept : IsSafe rules (machine_truth digest s head.bound) p (record_after rules xs) =
+    safe rules (machine_truth digest s head.bound) xs p (playable (machine_ruling digest head.version) head limits) (machine_ruling_is_fair digest is_digest head.version) run some known truly in
     record {
       safe = kept;
       verdict_ = λ c.

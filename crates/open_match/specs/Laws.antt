@@ -1,12 +1,13 @@
 -- To believe. What is promised of every open match, over logs of posts by anybody and with any contents. The laws of these names show it.
 use Rattle.std.specs.Prelude.{◌≡◌, ℕ, ◌+◌, ◌<◌, ◌≤◌, ◌^◌, true, false, List, [], ◌∷◌, ◌++◌, length, map, Some, None}
+use Rattle.std.specs.List.{AllByRecursion}
 use Rattle.rd_base.specs.declared.answer.Answer.{Answer}
 use Rattle.proof_wire.specs.Wire.{wire_form}
 use Rattle.rv_step.specs.State.{State}
 use Rattle.rv_step.specs.Step.{state_at}
 use Rattle.rv_step.specs.Valid.{IsValid}
 use Rattle.bisect_game.specs.declared.settled.Kind.{Kind}
-use Rattle.bisect_game.specs.Truth.{Truth, IsTrueAnswer}
+use Rattle.bisect_game.specs.Truth.{IsTrueAnswer}
 use Rattle.bisect_game.specs.Rules.{Rules, ArePlayable}
 use Rattle.bisect_game.specs.Ruling.{Ruling}
 use Rattle.step_referee.specs.MachineRuling.{machine_ruling}
@@ -30,10 +31,10 @@ use Rattle.transcript_text.specs.FullLines.{AreWritten}
 use Rattle.transcript_text.specs.reader.InLimits.{IsHeadInLimits}
 use Rattle.audit.specs.LineByLine.{rules_of_head}
 use Rattle.audit.specs.OwnMatch.{IsReadAndConfirmed}
-use Rattle.machine_audit.specs.MachineAudit.{IsStatedStart}
+use Rattle.machine_audit.specs.MachineAudit.{IsStatedStart, machine_rules}
 use Rattle.open_match.specs.Log.{entry_of, BeginWith, IsLogOf, IsNoLogAt}
 use Rattle.open_match.specs.declared.entry.EntryFault.{EntryFault}
-use Rattle.open_match.specs.OpenMatch.{numbers_are_in_limits}
+use Rattle.transcript_text.specs.Limits.{numbers_are_in_limits}
 
 -- ONE READING: the posts of a log are fixed by its bytes
 abbrev pub LogsHaveOneReading : Type 0
@@ -75,14 +76,6 @@ HeadsHaveShortRuns = (head : Head) → numbers_are_in_limits head ≡ true → h
 
 -- OPEN MATCHES ARE RIGHT
 
--- the machine in the head's version judges
-abbrev pub machine_rules : (List ℕ → List ℕ) → Head → Rules
-machine_rules digest head = rules_of_head (machine_ruling digest head.version) head
-
--- the run from a state over the head's bound
-abbrev pub run_of_head : (List ℕ → List ℕ) → Head → State → Truth
-run_of_head digest head s = machine_truth digest s head.bound
-
 -- the verdict states the status and the output in the state at the bound, or two different strings of one digest that answers of the record open
 abbrev pub AcceptsRunOrCollides : (List ℕ → List ℕ) → Head → State → Record → Verdict → Type 0
 AcceptsRunOrCollides digest head s r (verdict.Accept n) =
@@ -92,7 +85,7 @@ AcceptsRunOrCollides digest head s r (verdict.Collision x y) = IsCollisionIn (ma
 
 -- a prover is safe whose entries are true moves, and with it the verdict of a match that is over
 pub record IsSafeAndRight (digest : List ℕ → List ℕ) (head : Head) (s : State) (p : ℕ) (r : Record) : Type 0 where
-  pub safe : IsSafe (machine_rules digest head) (run_of_head digest head s) p r
+  pub safe : IsSafe (machine_rules digest head) (machine_truth digest s head.bound) p r
   pub verdict_ : is_complete r ≡ true → AcceptsRunOrCollides digest head s r (verdict_of (machine_rules digest head) r)
 
 -- for each log, each start state with the head's root, and each prover whose entries are true moves within the patience, whatever the others post
@@ -101,7 +94,7 @@ OpenMatchesAreRight digest =
     (head : Head) (log : List ℕ) (xs : List Post) (s : State) (p : ℕ) →
     let rules : Rules = machine_rules digest head in
     numbers_are_in_limits head ≡ true → IsLogOf head.provers xs log → IsStatedStart digest head s → 0 < p → p ≤ head.provers →
-    MovesTruly rules (run_of_head digest head s) p (begun rules) xs → IsSafeAndRight digest head s p (record_after rules xs)
+    MovesTruly rules (machine_truth digest s head.bound) p (begun rules) xs → IsSafeAndRight digest head s p (record_after rules xs)
 
 -- TRUE ANSWERS CAN BE SENT: each true answer to what a match may ask has a wire form, if the run starts in a valid state and its output at the bound
 -- is short enough for a claim
@@ -127,14 +120,10 @@ pub record CanGoOn (rules : Rules) (xs : List Post) : Type 0 where
   pub passes : next.answer ≡ None
   pub effect : effective_posts rules (xs ++ next ∷ []) (begun rules) ≡ effective_posts rules xs (begun rules) + 1
 
-abbrev pub ArePasses : List Post → Type 0
-ArePasses [] = Unit {0}
-ArePasses (x ∷ xs) = (x.answer ≡ None) × ArePasses xs
-
 -- some passes, no more than all posts with an effect that a match can have, end it
 pub record HasEnd (rules : Rules) (k : ℕ) (xs : List Post) : Type 0 where
   pub passes : List Post
-  pub all : ArePasses passes
+  pub all : AllByRecursion (λ (x : Post). x.answer ≡ None) passes
   pub few : length passes ≤ most_entries rules.setup k
   pub over : is_complete (record_after rules (xs ++ passes)) ≡ true
 

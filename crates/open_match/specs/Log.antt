@@ -3,8 +3,7 @@
 use Rattle.std.specs.Prelude.{◌≡◌, ℕ, ◌+◌, ◌<◌, nat_lt, ◌==◌, ◌||◌, List, [], ◌∷◌, length, take, drop, Option, Some, None, Result, Ok, Err, if◌then◌else◌}
 use Rattle.std.specs.Int.{w32, from_le_bytes}
 use Rattle.rd_base.specs.declared.answer.Answer.{Answer}
-use Rattle.rd_base.specs.Results.{◌>>=◌}
-use Rattle.proof_wire.specs.declared.fault.WireFault.{WireFault}
+use Rattle.rd_base.specs.Results.{◌>>=◌, map_fault}
 use Rattle.proof_wire.specs.Reading.{answer_in}
 use Rattle.tournament.specs.Posting.{Post}
 use Rattle.open_match.specs.declared.entry.Entry.{Entry}
@@ -14,13 +13,9 @@ use Rattle.open_match.specs.declared.entry.EntryFault.TheVariants.{Cut, NoProver
 abbrev pub front_number : ℕ → List ℕ → ℕ
 front_number place bytes = from_le_bytes w32 (take 4 (drop place bytes))
 
-abbrev pub read_as : Result Answer WireFault → Result (Option Answer) EntryFault
-read_as (Ok a) = Ok (Some a)
-read_as (Err fault) = Err (NoAnswer fault)
-
 -- no bytes are a pass, and others the answer that they spell
 abbrev pub answer_given : List ℕ → Result (Option Answer) EntryFault
-answer_given wire = if length wire == 0 then Ok None else read_as (answer_in wire)
+answer_given wire = if length wire == 0 then Ok None else (map_fault NoAnswer (answer_in wire) >>= λ a. Ok (Some a))
 
 -- the entry at the front of some bytes, and the bytes behind it: it is whole, its prover is one of `provers`, and it is a pass or an answer
 unfoldable pub entry_at : ℕ → List ℕ → Result (Entry × List ℕ) EntryFault

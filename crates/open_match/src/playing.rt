@@ -2,7 +2,8 @@
 ghost use Rattle.std.specs.Prelude.{◌≡◌, true, IfOk, IfErr};
 ghost use Rattle.audit.specs.LineByLine.{rules_of_head, setup_of_head};
 ghost use Rattle.open_match.specs.declared.playing.LogFault.TheVariants as fault;
-ghost use Rattle.open_match.specs.OpenMatch.{numbers_are_in_limits, IsAfterLog, IsRefused};
+ghost use Rattle.open_match.specs.OpenMatch.{IsAfterLog, IsRefused};
+ghost use Rattle.transcript_text.specs.Limits.{numbers_are_in_limits};
 
 use crate::entry::{EntryFault, post_entry};
 use bisect_game::Judge;
