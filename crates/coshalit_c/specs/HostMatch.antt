@@ -24,6 +24,7 @@ use Rattle.coshalit_c.specs.declared.found.CoshalitMatch.{CoshalitMatch}
 use Rattle.coshalit_c.specs.declared.texts.CoshalitAnswer.{CoshalitAnswer}
 use Rattle.coshalit_c.specs.Asked.{asked_of}
 use Rattle.machine_audit.specs.MachineAudit.{machine_rules}
+use Rattle.std.specs.Option.{unwrap_or}
 
 -- the head of these numbers: the digest is SHA-256
 abbrev pub head_of_match : CoshalitNumbers → Head
@@ -40,8 +41,7 @@ reply_number (Some (reply.Stale o)) = 4
 -- who is accepted, and 0 if nobody is
 abbrev pub prover_accepted : Verdict → ℕ
 prover_accepted (verdict.Accept n) = n
-prover_accepted verdict.NoneLeft = 0
-prover_accepted (verdict.Collision x y) = 0
+prover_accepted other = 0
 
 -- the status of the program for a verdict
 abbrev pub status_of_verdict : Verdict → ℕ
@@ -70,12 +70,17 @@ pub record IsMatchWritten (rules : Rules) (provers : ℕ) (st : MatchState) (rep
   }
   pub room : now ≡ take (length before) (asked_of rules st provers) ++ drop (length (asked_of rules st provers)) before
 
--- it is written of the match after the log
-pub record IsMatchFound (head : Head) (log : List ℕ) (status : ℕ) (found : CoshalitMatch) (before now : List CoshalitQuestion) : Type 0 where
+-- this is so of the match after the log, and of the reply to its last post
+pub record IsAfterTheLog (head : Head) (log : List ℕ) (says : MatchState → Option Reply → Type 0) : Type 0 where
   pub state : MatchState
   pub reply : Option Reply
   pub after : IsAfterLog (machine_rules sha256 head) log state reply
-  pub written : IsMatchWritten (machine_rules sha256 head) head.provers state reply status found before now
+  pub so : says state reply
+
+-- it is written of the match after the log
+abbrev pub IsMatchFound : Head → List ℕ → ℕ → CoshalitMatch → List CoshalitQuestion → List CoshalitQuestion → Type 0
+IsMatchFound head log status found before now =
+    IsAfterTheLog head log (λ st reply. IsMatchWritten (machine_rules sha256 head) head.provers st reply status found before now)
 
 -- why bytes don't begin with an entry, by number, and the number of the rule that the bytes of an answer break
 abbrev pub entry_cause_number : EntryFault → ℕ
@@ -84,15 +89,9 @@ entry_cause_number no_entry.NoProver = 2
 entry_cause_number (no_entry.NoAnswer fault) = 3
 entry_cause_number no_entry.Memory = 0
 
-abbrev pub or_zero : Option ℕ → ℕ
-or_zero (Some n) = n
-or_zero None = 0
-
 abbrev pub entry_rule_number : EntryFault → ℕ
-entry_rule_number no_entry.Cut = 0
-entry_rule_number no_entry.NoProver = 0
-entry_rule_number (no_entry.NoAnswer fault) = or_zero (wire_rule fault)
-entry_rule_number no_entry.Memory = 0
+entry_rule_number (no_entry.NoAnswer fault) = unwrap_or (wire_rule fault) 0
+entry_rule_number other = 0
 
 -- the bytes are no log: where and why
 pub record IsNoLogFound (head : Head) (log : List ℕ) (found : CoshalitMatch) : Type 0 where
@@ -110,18 +109,12 @@ pub record IsTextOfMatch (head : Head) (st : MatchState) (answer : CoshalitAnswe
   pub confirmed : IsReadAndConfirmed (machine_ruling sha256 head.version) head st.record_
 
 -- it is that of the match after the log
-pub record IsTextFound (head : Head) (log : List ℕ) (answer : CoshalitAnswer) (before now : List ℕ) : Type 0 where
-  pub state : MatchState
-  pub reply : Option Reply
-  pub after : IsAfterLog (machine_rules sha256 head) log state reply
-  pub text : IsTextOfMatch head state answer before now
+abbrev pub IsTextFound : Head → List ℕ → CoshalitAnswer → List ℕ → List ℕ → Type 0
+IsTextFound head log answer before now = IsAfterTheLog head log (λ st reply. IsTextOfMatch head st answer before now)
 
 -- no text, as a question is open after the log
-pub record IsStillOpen (head : Head) (log : List ℕ) : Type 0 where
-  pub state : MatchState
-  pub reply : Option Reply
-  pub after : IsAfterLog (machine_rules sha256 head) log state reply
-  pub open_ : is_complete state.record_ ≡ false
+abbrev pub IsStillOpen : Head → List ℕ → Type 0
+IsStillOpen head log = IsAfterTheLog head log (λ st reply. is_complete st.record_ ≡ false)
 
 -- no text, as the bytes are no log
 pub record IsNoLogAnywhere (head : Head) (log : List ℕ) : Type 0 where

@@ -1,15 +1,13 @@
 -- To believe. What a caller in another language gets of the stakes of a match of its own that is over.
-use Rattle.std.specs.Prelude.{◌≡◌, ℕ, Bool, true, ◌&&◌, nat_le, List, ◌++◌, length, take, drop, Option, Some, None, if◌then◌else◌}
+use Rattle.std.specs.Prelude.{◌≡◌, ℕ, Bool, true, ◌&&◌, nat_le, List, ◌++◌, length, take, drop}
 use Rattle.sha2.specs.Sha256.{sha256}
-use Rattle.tournament.specs.declared.posting.Reply.{Reply}
 use Rattle.tournament.specs.Bracket.{Record, is_complete}
 use Rattle.tournament.specs.Moves.{MatchState}
 use Rattle.deposits.specs.declared.amounts.Balances.{Balances}
 use Rattle.deposits.specs.Balances.{balances_of}
 use Rattle.deposits.specs.Burning.{balances_if_burned}
 use Rattle.transcript_text.specs.declared.text.Head.{Head}
-use Rattle.open_match.specs.OpenMatch.{IsAfterLog}
-use Rattle.coshalit_c.specs.HostMatch.{status_of_match}
+use Rattle.coshalit_c.specs.HostMatch.{status_of_match, IsAfterTheLog}
 use Rattle.coshalit_c.specs.declared.stakes.Settlement.{Settlement}
 use Rattle.coshalit_c.specs.declared.stakes.Settlement.TheVariants.{Ledger, Burning}
 use Rattle.transcript_text.specs.Limits.{numbers_are_in_limits}
@@ -19,10 +17,6 @@ use Rattle.machine_audit.specs.MachineAudit.{machine_rules}
 abbrev pub balances_by : Settlement → ℕ → ℕ → Record → Balances
 balances_by Ledger stake provers r = balances_of stake provers r
 balances_by Burning stake provers r = balances_if_burned stake provers r
-
--- these, once the match is over
-abbrev pub balances_if_over : Settlement → ℕ → ℕ → Record → Option Balances
-balances_if_over settlement stake provers r = if is_complete r then Some (balances_by settlement stake provers r) else None
 
 -- the numbers of the match and the stake are within their limits
 abbrev pub stakes_are_in_limits : Head → ℕ → Bool
@@ -36,8 +30,6 @@ pub record AreStakesWritten (settlement : Settlement) (head : Head) (stake : ℕ
   pub pool_ : pool ≡ (balances_by settlement stake head.provers st.record_).pool
 
 -- it is written of the match after the log
-pub record AreStakesFound (settlement : Settlement) (head : Head) (stake : ℕ) (log : List ℕ) (status : ℕ) (before now : List ℕ) (pool : ℕ) : Type 0 where
-  pub state : MatchState
-  pub reply : Option Reply
-  pub after : IsAfterLog (machine_rules sha256 head) log state reply
-  pub written : AreStakesWritten settlement head stake state status before now pool
+abbrev pub AreStakesFound : Settlement → Head → ℕ → List ℕ → ℕ → List ℕ → List ℕ → ℕ → Type 0
+AreStakesFound settlement head stake log status before now pool =
+    IsAfterTheLog head log (λ st reply. AreStakesWritten settlement head stake st status before now pool)

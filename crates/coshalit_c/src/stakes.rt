@@ -3,7 +3,8 @@ ghost use Rattle.std.specs.Prelude.{◌≡◌, ◌≢◌, ◌≤◌, ◌++◌, f
 ghost use Rattle.audit.specs.LineByLine.{setup_of_head};
 ghost use Rattle.tournament.specs.Bracket.{is_complete};
 ghost use Rattle.coshalit_c.specs.HostMatch.{head_of_match, IsStillOpen, IsNoLogAnywhere};
-ghost use Rattle.coshalit_c.specs.Stakes.{balances_if_over, stakes_are_in_limits, AreStakesWritten, AreStakesFound};
+ghost use Rattle.coshalit_c.specs.Stakes.{balances_by, stakes_are_in_limits, AreStakesWritten, AreStakesFound};
+ghost use Rattle.open_match.specs.OpenMatch.{once_over};
 ghost use Rattle.coshalit_c.specs.declared.stakes.Settlement.TheVariants as settlements;
 
 use crate::found::{BAD_LOG, BAD_NUMBERS, OUT_OF_MEMORY, STILL_OPEN, ending};
@@ -35,7 +36,8 @@ fn settled(
 ) -> Result<Option<Balances>, Memory>
     requires small { stake ≤ 1000000000 }
     requires few { game.now.setup.provers ≤ 16 }
-    ensures { IfOk result (λ b. b ≡ balances_if_over settlement stake game.now.setup.provers game.now.game.record_) }
+    ensures { IfOk result (λ b.
+        b ≡ once_over game.now.game.record_ (balances_by settlement stake game.now.setup.provers game.now.game.record_)) }
 {
     match settlement {
         Settlement::Ledger => balances(alloc, stake, game),
