@@ -1,5 +1,6 @@
 -- A tampered run is refuted in the proof of the step that its tamper fixes, or its dispute with a true run closes by a collision.
-use Rattle.std.proofs.Common.{◌≡◌, ◌≢◌, ℕ, zero, suc, ◌+◌, ◌-◌, ◌^◌, ◌<◌, ◌≤◌, min, nat_lt, Bool, true, false, not, ◌&&◌, ◌⊎◌, inl, inr, List, [], ◌∷◌, length, slice_get, Option, Some, None, if◌then◌else◌, refl, sym, ◌∙◌, ap, subst, arith, add-one}
+use Rattle.std.proofs.Common.{All, ◌≡◌, ◌≢◌, ℕ, zero, suc, ◌+◌, ◌-◌, ◌^◌, ◌<◌, ◌≤◌, min, nat_lt, Bool, true, false, not, ◌&&◌, ◌⊎◌, inl, inr, List, [], ◌∷◌, length, slice_get, Option, Some, None, if◌then◌else◌, refl, sym, ◌∙◌, ap, subst, arith, add-one}
+use Rattle.std.proofs.lemmas.List.Elements.{All-nil, All-cons}
 use Rattle.std.proofs.lemmas.Bool.{cases_Bool, and_parts, ne_eqb}
 use Rattle.std.proofs.lemmas.Bool.Decides.{nat_tests}
 use Rattle.std.proofs.lemmas.Slice.Eq.{bytes_eq-Decides}
@@ -43,7 +44,7 @@ use Rattle.case_reader.specs.Case.{CaseData}
 use Rattle.case_match.specs.Match.{rules_of_case, says_of_case, record_of_case, truth_of_case}
 use Rattle.case_match.specs.TruthfulInCase.{IsInRange}
 use Rattle.case_match.specs.PartingRuns.{root_in_game, run_in_game, AnswersByItsRun, DisputesOfCasesEndWhereRunsPart}
-use Rattle.case_match.specs.RefutedTampers.{IsRefutingStep, IsRefutedByStep, AllTampersRefuted, TampersAreRefuted}
+use Rattle.case_match.specs.RefutedTampers.{IsRefutingStep, IsRefutedByStep, IsTamperRefuted, TampersAreRefuted}
 use Rattle.case_match.proofs.EndingLemmas.{IsComeTo, come-to}
 use Rattle.case_match.proofs.HonestLemmas.{SaysByScript, proof-of, claim-of, IsPlainRun, plain-true, passes-by, there-at}
 use Rattle.case_match.proofs.SafetyLemmas.{RunsAreTrue}
@@ -338,21 +339,21 @@ module _ (digest : List ℕ → List ℕ) (laws : TamperLaws digest) where
 
   all-refuted : (c : CaseData) (start : State) → IsInRange c start → (t : Tamper) → IsTamperInRange t → IsRun (rules_of_case digest c start) (truth_of_case digest c start) → (p q : ℕ) (ds : List Bisection) → all_closed ds ≡ true →
       AllEndWhereTheyPart (rules_of_case digest c start) (truth_of_case digest c start) (run_in_game digest c start t) p q ds →
-      AllEndWhereTheyPart (rules_of_case digest c start) (run_in_game digest c start t) (truth_of_case digest c start) q p ds → AllTampersRefuted digest c start t p q ds
-  all-refuted c start range t fits run p q [] shut a b = tt
+      AllEndWhereTheyPart (rules_of_case digest c start) (run_in_game digest c start t) (truth_of_case digest c start) q p ds → All (IsTamperRefuted digest c start t p q) ds
+  all-refuted c start range t fits run p q [] shut a b = All-nil (IsTamperRefuted digest c start t p q)
   all-refuted c start range t fits run p q (d ∷ ds) shut a b =
       let two : (is_closed d ≡ true) × (all_closed ds ≡ true) = and_parts (is_closed d) (all_closed ds) shut in
       let rules : Rules = rules_of_case digest c start in
       let fair : IsFair rules.ruling = laws.fair start.version in
-      let but = true-but c start range t fits in (
-        record {
+      let but = true-but c start range t fits in
+      All-cons (IsTamperRefuted digest c start t p q) d ds
+        (record {
           as_second = λ first second.
               as-step (Out false true) (HasCollided rules.ruling (truth_of_case digest c start) (run_in_game digest c start t) d) (refuted-second rules (truth_of_case digest c start) (run_in_game digest c start t) fair run (IsRefutingStep digest c start t) d but (a.0 first second two.0));
           as_first = λ first second.
               as-step (Out true false) (HasCollided rules.ruling (run_in_game digest c start t) (truth_of_case digest c start) d) (refuted-first rules (truth_of_case digest c start) (run_in_game digest c start t) fair run (IsRefutingStep digest c start t) d but (b.0 first second two.0));
-        },
-        all-refuted c start range t fits run p q ds two.1 a.1 b.1,
-      )
+        })
+        (all-refuted c start range t fits run p q ds two.1 a.1 b.1)
     where
       as-step : (out : Close) (Collided : Type 0) → EndsAt (IsRefutingStep digest c start t) out d ⊎ Collided → IsRefutedByStep digest c start t out d ⊎ Collided
       as-step out Collided (inl e) = inl (record { at = e.at; step = e.step; out_ = e.out_ })

@@ -1,7 +1,7 @@
 -- To believe: where a tampered run is refuted. A prover of a case that answers by its own run, with a tamper, is out in each dispute with a
 -- prover that claims and answers as the machine's definition says, and which step's proof refutes it is fixed by the tamper; or the dispute
 -- has closed by a collision.
-use Rattle.std.specs.Prelude.{◌≡◌, ◌≢◌, ℕ, ◌+◌, ◌-◌, ◌<◌, ◌≤◌, ◌⊎◌, true, false, List, [], ◌∷◌, Some, slice_get}
+use Rattle.std.specs.Prelude.{◌≡◌, ◌≢◌, ℕ, ◌+◌, ◌-◌, ◌<◌, ◌≤◌, ◌⊎◌, true, false, List, All, Some, slice_get}
 use Rattle.rd_base.specs.declared.script.Script.{Script}
 use Rattle.rd_base.specs.declared.tamper.Tamper.{Tamper}
 use Rattle.rd_base.specs.declared.tamper.Tamper.TheVariants.{Untouched, Flip, Register, Early}
@@ -46,16 +46,12 @@ pub record IsTamperRefuted (digest : List ℕ → List ℕ) (c : CaseData) (star
   pub as_first : d.first ≡ q → d.second ≡ p → IsRefutedByStep digest c start tamper (Out true false) d
       ⊎ HasCollided (rules_of_case digest c start).ruling (run_in_game digest c start tamper) (truth_of_case digest c start) d
 
-abbrev pub AllTampersRefuted : (List ℕ → List ℕ) → CaseData → State → Tamper → ℕ → ℕ → List Bisection → Type 0
-AllTampersRefuted digest c start tamper p q [] = Unit {0}
-AllTampersRefuted digest c start tamper p q (d ∷ ds) = IsTamperRefuted digest c start tamper p q d × AllTampersRefuted digest c start tamper p q ds
-
 -- so it is in each dispute of the record of a case
 abbrev pub TampersAreRefuted : (List ℕ → List ℕ) → Type 0
 TampersAreRefuted digest =
     (c : CaseData) (start : State) (p q : ℕ) (script : Script) → IsInRange c start → IsTruthfulInCase digest c start p → 0 < q →
     slice_get c.provers (q - 1) ≡ Some script → IsTamperInRange script.tamper → AnswersByItsRun c script.manner →
-    AllTampersRefuted digest c start script.tamper p q (record_of_case digest c start).disputes
+    All (IsTamperRefuted digest c start script.tamper p q) (record_of_case digest c start).disputes
 
 -- A CASE THAT IS READ has tampers in range, and so each is refuted
 
@@ -67,4 +63,4 @@ abbrev pub ReadTampersAreRefuted : (List ℕ → List ℕ) → Type 0
 ReadTampersAreRefuted digest =
     (bytes : List ℕ) (c : CaseData) (start : State) (p q : ℕ) (script : Script) → HoldsCase bytes c → IsInRange c start → IsTruthfulInCase digest c start p → 0 < q →
     slice_get c.provers (q - 1) ≡ Some script → AnswersByItsRun c script.manner →
-    AllTampersRefuted digest c start script.tamper p q (record_of_case digest c start).disputes
+    All (IsTamperRefuted digest c start script.tamper p q) (record_of_case digest c start).disputes
