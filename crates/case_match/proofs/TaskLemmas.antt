@@ -1,5 +1,5 @@
 -- Many cases: opened one after another, and how they end.
-use Rattle.std.proofs.Common.{◌≡◌, ℕ, ◌+◌, ◌<◌, List, [], ◌∷◌, ◌++◌, All, map, zip, length, take, get_or, length-append, Option, Some, refl, sym, ap, ap₂, subst, ◌∙◌, arith, append_assoc}
+use Rattle.std.proofs.Common.{Result, Ok, Err, IfOk, ◌≡◌, ℕ, ◌+◌, ◌<◌, List, [], ◌∷◌, ◌++◌, All, map, zip, length, take, get_or, length-append, Option, Some, refl, sym, ap, ap₂, subst, ◌∙◌, arith, append_assoc}
 use Rattle.std.proofs.lemmas.List.{take_more, map-append, length-map, append-nil}
 use Rattle.std.specs.Option.{option_to_list}
 use Rattle.std.proofs.lemmas.List.Elements.{All-nil, All-cons, All-head, All-tail}
@@ -23,6 +23,7 @@ use Rattle.prover_run.specs.CaseScripts.{CaseScripts, case_says}
 use Rattle.case_reader.specs.declared.case.Case.{Case}
 use Rattle.case_reader.specs.Case.{CaseData, data_of}
 use Rattle.case_match.specs.declared.opening.LoadedCase.{LoadedCase}
+use Rattle.case_match.specs.declared.opening.EndedCase.{EndedCase}
 use Rattle.case_match.specs.declared.referee.Ended.{Ended}
 use Rattle.case_match.specs.Match.{start_root, rules_of_case, says_of_case, ending_of_case, endings_of_cases, AreSettledUp, RecordsOfCasesAreSettledUp}
 use Rattle.case_match.specs.Openings.{IsFresh, ended_alone, ended_of_loaded, opening_of_case, opening_of_loaded}
@@ -122,14 +123,42 @@ only-last {A} xs rest o x y one parts is = by rest (sym one ∙ (parts ∙ ap (�
     by [] e = sym (ap (λ (l : List A). get_or l 0 x) e)
     by (z ∷ zs) e = absurd (omega (arith, ap length e, length-append zs (y ∷ [])))
 
+-- each case with its end, one after another
+
+pub one-more-mapped : {A B : Type 0} (f : A → B) (old now : List A) (x : A) (ys : List B) → now ≡ old ++ x ∷ [] → map f old ≡ ys → map f now ≡ ys ++ f x ∷ []
+one-more-mapped f old now x ys pushed so_far = ap (map f) pushed ∙ (map-append f old (x ∷ []) ∙ ap (λ l. l ++ f x ∷ []) so_far)
+
+pub one-more-taken : {A : Type 0} (xs : List A) (i : ℕ) (x : A) → i < length xs → x ≡ get_or xs i x → take i xs ++ x ∷ [] ≡ take (i + 1) xs
+one-more-taken xs i x within read = ap (λ y. take i xs ++ y ∷ []) read ∙ sym (take_more xs i x within)
+
+pub as-many-ends : {A B C D : Type 0} (f : B → C) (g : A → B) (h : A → D) (xs : List A) (ys : List B) (zs : List C) (ws : List D)
+    → ys ≡ map g xs → zs ≡ map f ys → ws ≡ map h xs → length zs ≡ length ws
+as-many-ends f g h xs ys zs ws ys_are zs_are ws_are =
+    ap length zs_are ∙ (length-map ys f ∙ (ap length ys_are ∙ (length-map xs g ∙ sym (ap length ws_are ∙ length-map xs h))))
+
+pub both-ok : {A E : Type 0} (r : Result A E) (P Q R : A → Type 0) → ((a : A) → P a → Q a → R a) → IfOk r P → IfOk r Q → IfOk r R
+both-ok (Ok a) P Q R give p q = give a p q
+both-ok (Err e) P Q R give p q = p
+
 -- how the cases of openings end
 
-pub ended-as-loaded : (digest : List ℕ → List ℕ) (ls : List LoadedCase) (hs : List (Opening MachineNames CaseScripts)) (ends : List Ended) → hs ≡ map (opening_of_loaded digest) ls
-    → ends ≡ map (ended_alone (λ (n : MachineNames). machine_ruling digest n.version) (λ (n : CaseScripts). case_says digest n.start n.bound n.scripts)) hs → ends ≡ map (ended_of_loaded digest) ls
-ended-as-loaded digest ls hs ends opened are =
-    are
-    ∙ (ap (map (ended_alone (λ (n : MachineNames). machine_ruling digest n.version) (λ (n : CaseScripts). case_says digest n.start n.bound n.scripts))) opened
-    ∙ sym (map_twice (ended_alone (λ (n : MachineNames). machine_ruling digest n.version) (λ (n : CaseScripts). case_says digest n.start n.bound n.scripts)) (opening_of_loaded digest) ls))
+abbrev ends-of : (List ℕ → List ℕ) → Opening MachineNames CaseScripts → Ended
+ends-of digest = ended_alone (λ (n : MachineNames). machine_ruling digest n.version) (λ (n : CaseScripts). case_says digest n.start n.bound n.scripts)
+
+pub ended-as-loaded : (digest : List ℕ → List ℕ) (ls : List LoadedCase) (es : List EndedCase) (ends : List Ended) (hs : List (Opening MachineNames CaseScripts)) → hs ≡ map (opening_of_loaded digest) ls
+    → ends ≡ map (ends-of digest) hs → map (λ (e : EndedCase). e.end) es ≡ ends → map (λ (e : EndedCase). e.case) es ≡ map (λ (l : LoadedCase). l.case) ls → es ≡ map (ended_of_loaded digest) ls
+ended-as-loaded digest ls es ends hs opened are ends_are cases_are =
+    by ls es (ends_are ∙ (are ∙ (ap (map (ends-of digest)) opened ∙ sym (map_twice (ends-of digest) (opening_of_loaded digest) ls)))) cases_are
+  where
+    by : (ks : List LoadedCase) (es : List EndedCase) → map (λ (e : EndedCase). e.end) es ≡ map (λ (k : LoadedCase). ends-of digest (opening_of_loaded digest k)) ks
+        → map (λ (e : EndedCase). e.case) es ≡ map (λ (k : LoadedCase). k.case) ks → es ≡ map (ended_of_loaded digest) ks
+    by [] [] ends cases = refl
+    by [] (e ∷ es) ends cases = absurd (cc ends)
+    by (k ∷ ks) [] ends cases = absurd (cc ends)
+    by (k ∷ ks) (e ∷ es) ends cases =
+        let end : e.end ≡ ends-of digest (opening_of_loaded digest k) = cc ends in
+        let case_ : e.case ≡ k.case = cc cases in
+        ap₂ (λ (x : EndedCase) (l : List EndedCase). x ∷ l) (ap₂ (λ c d. record { case = c; end = d }) case_ end) (by ks es (cc ends) (cc cases))
 
 pub as-many-books : (digest : List ℕ → List ℕ) (ls : List LoadedCase) (books : List (BookOf MachineNames CaseScripts)) → openings books ≡ map (opening_of_loaded digest) ls → length books ≡ length ls
 as-many-books digest ls books opened = sym (length-map books (λ (b : BookOf MachineNames CaseScripts). b.opening)) ∙ (ap length opened ∙ length-map ls (opening_of_loaded digest))
@@ -144,10 +173,17 @@ pub record-settled : RecordsOfCasesAreSettledUp → (digest : List ℕ → List 
 record-settled law digest c start r is =
     subst (IsSettledUp (length c.provers)) (sym is) (law (rules_of_case digest (data_of c) start) (says_of_case digest (data_of c) start) (playable digest c start))
 
+pub ended-settled : RecordsOfCasesAreSettledUp → (digest : List ℕ → List ℕ) (ls : List LoadedCase)
+    → All (λ (e : EndedCase). IsSettledUp (length e.case.now.provers) e.end.match_record) (map (ended_of_loaded digest) ls)
+ended-settled law digest [] = All-nil (λ (e : EndedCase). IsSettledUp (length e.case.now.provers) e.end.match_record)
+ended-settled law digest (l ∷ ls) =
+    All-cons (λ (e : EndedCase). IsSettledUp (length e.case.now.provers) e.end.match_record) (ended_of_loaded digest l) (map (ended_of_loaded digest) ls)
+    (record-settled law digest l.case.now (state_of l.start) _ refl) (ended-settled law digest ls)
+
 -- cases and machines, and how they end
 
 abbrev pub endings-of-loaded : (List ℕ → List ℕ) → List LoadedCase → List (Record × Verdict)
-endings-of-loaded digest ls = map (λ (end : Ended). (end.match_record, end.verdict)) (map (ended_of_loaded digest) ls)
+endings-of-loaded digest ls = map (λ (e : EndedCase). (e.end.match_record, e.end.verdict)) (map (ended_of_loaded digest) ls)
 
 pub all-fresh : (digest : List ℕ → List ℕ) (ls : List LoadedCase) (starts : List Machine) → map (λ (l : LoadedCase). l.start) ls ≡ starts → All (IsChained digest) starts
     → All (λ (m : Machine). m.output.items ≡ []) starts → All (λ (l : LoadedCase). IsFresh digest l.start) ls

@@ -18,6 +18,7 @@ use Rattle.step_referee.specs.MachineTruth.{machine_truth}
 use Rattle.prover_run.specs.CaseScripts.{case_says}
 use Rattle.case_reader.specs.Case.{CaseData}
 use Rattle.deposits.specs.Balances.{IsSettledUp}
+use Rattle.case_match.specs.declared.referee.Ended.{Ended}
 
 -- the root at step 0, in the version of the state in which the run starts
 abbrev pub start_root : (List ℕ → List ℕ) → State → Digest32
@@ -50,6 +51,11 @@ truth_of_case digest c start = machine_truth digest start c.bound
 -- the state at the bound, in which the sequential run ends
 abbrev pub final_state : CaseData → State → State
 final_state c start = state_at start c.bound
+
+-- its numbers, its record, and the verdict of that record
+abbrev pub ended_case : (List ℕ → List ℕ) → CaseData → State → Ended
+ended_case digest c start =
+    record { setup = setup_of digest c start; match_record = record_of_case digest c start; verdict = verdict_of_record digest c start (record_of_case digest c start) }
 
 -- HOW CASES END that are played together: each as it ends alone. Nothing of the others is in it, nor of any schedule
 

@@ -12,8 +12,9 @@ use Rattle.step_referee.specs.declared.judge.MachineNames.{MachineNames}
 use Rattle.prover_run.specs.CaseScripts.{CaseScripts}
 use Rattle.case_reader.specs.Case.{CaseData, data_of}
 use Rattle.case_match.specs.declared.opening.LoadedCase.{LoadedCase}
+use Rattle.case_match.specs.declared.opening.EndedCase.{EndedCase}
 use Rattle.case_match.specs.declared.referee.Ended.{Ended}
-use Rattle.case_match.specs.Match.{setup_of, record_of_case, verdict_of_record}
+use Rattle.case_match.specs.Match.{setup_of, ended_case}
 
 -- a machine without output, whose chain is that of no output by a digest function
 pub record IsFresh (digest : List ℕ → List ℕ) (m : Machine) : Type 0 where
@@ -31,11 +32,6 @@ abbrev pub ended_alone : {N M : Type 0} → (N → Ruling) → (M → Says) → 
 ended_alone ruling says h =
     record { setup = h.setup; match_record = record_alone ruling says h; verdict = verdict_of (rules_of (ruling h.judge) h.setup) (record_alone ruling says h) }
 
--- the same of a case whose run starts in this state
-abbrev pub ended_case : (List ℕ → List ℕ) → CaseData → State → Ended
-ended_case digest c start =
-    record { setup = setup_of digest c start; match_record = record_of_case digest c start; verdict = verdict_of_record digest c start (record_of_case digest c start) }
-
 -- what the match of a case is opened with, whose run starts in this state
 abbrev pub opening_of_case : (List ℕ → List ℕ) → CaseData → State → Opening MachineNames CaseScripts
 opening_of_case digest c start =
@@ -46,5 +42,6 @@ opening_of_case digest c start =
 abbrev pub opening_of_loaded : (List ℕ → List ℕ) → LoadedCase → Opening MachineNames CaseScripts
 opening_of_loaded digest l = opening_of_case digest (data_of l.case.now) (state_of l.start)
 
-abbrev pub ended_of_loaded : (List ℕ → List ℕ) → LoadedCase → Ended
-ended_of_loaded digest l = ended_case digest (data_of l.case.now) (state_of l.start)
+-- the case with its end
+abbrev pub ended_of_loaded : (List ℕ → List ℕ) → LoadedCase → EndedCase
+ended_of_loaded digest l = record { case = l.case; end = ended_case digest (data_of l.case.now) (state_of l.start) }

@@ -1,9 +1,9 @@
 //! The match of a case: its provers' runs, the judge of the machine, and the bracket that they are played in; and those of many tasks.
 //!
-//! The layers above may rely on this: `ended_tasks` gives the results of the matches of loaded cases: the root at step 0, the record and
-//! the verdict of each, which are functions of the case, the state that its run starts in and the digester's function (`specs/Match.antt`),
-//! however many threads play them and whatever the others do. `verdict_of_case` is the same of one case, and `verdict_of_tasks` of cases
-//! and machines. A prover that claims and answers as the machine's definition says is safe in that record, which a law states for any
+//! The layers above may rely on this: `ended_tasks` gives loaded cases with the results of their matches: the root at step 0, the record
+//! and the verdict of each. These are functions of the case, the state that its run starts in and the digester's function
+//! (`specs/Match.antt`), however many threads play them and whatever the others do. `verdict_of_case` is the same of one case, and
+//! `verdict_of_tasks` of cases and machines. A prover that claims and answers as the machine's definition says is safe in that record, which a law states for any
 //! digester (`specs/TruthfulInCase.antt`). `specs/HonestScripts.antt` defines which scripts make a prover one of these;
 //! `specs/RefutedTampers.antt`, in the proof of which step a prover with a tamper is refuted; `specs/PartingRuns.antt`, where a dispute of
 //! two tampered runs ends; `specs/Ended.antt`, that the record of a case is that of a match that is over; and `specs/Earnings.antt`, what a
@@ -25,7 +25,7 @@ pub use laws::{
     tampers_of_cases_are_refuted, truthful_provers_of_cases_are_safe,
     untouched_provers_are_truthful, who_lives_in_a_case_wins_all,
 };
-pub use opening::{LoadedCase, ended_one, ended_tasks, loaded_cases};
+pub use opening::{EndedCase, LoadedCase, ended_tasks, loaded_cases};
 pub use options::Options;
 pub use posters::{OpenGate, TaskGate};
 pub use referee::Ended;

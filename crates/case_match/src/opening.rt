@@ -16,7 +16,7 @@ use crate::referee::{Ended, decide};
 use bisect_game::{Answerer, Provers};
 use board_book::{Book, answerers_say_in_order};
 use case_reader::Case;
-use posters::{OpenGate, TaskGate};
+use posters::TaskGate;
 use prover_run::{CaseProvers, Plan, RunAnswerer, Start, answerers_with_input};
 use prover_script::Scripted;
 use rd_base::Memory;
@@ -33,6 +33,13 @@ use step_referee::MachineJudge;
 pub struct LoadedCase<'a> {
     pub case: &'a Case,
     pub start: Machine,
+}
+
+/// A case whose match has ended, and how.
+#[derive(Drop)]
+pub struct EndedCase<'a> {
+    pub case: &'a Case,
+    pub end: Ended,
 }
 
 /// Cases with the machines in which their runs start, one for each. No machine has any output.
@@ -66,11 +73,12 @@ struct OpenedMatch<D: Replays> {
     answerers: Vec<Scripted<RunAnswerer<D>, D>>,
 }
 
-/// The matches of cases, opened: their books, and the answerers of all their provers.
+/// The matches of cases, opened: their books, the answerers of all their provers, and the cases.
 #[derive(Drop)]
-struct OpenedMatches<D: Replays> {
+struct OpenedMatches<'a, D: Replays> {
     pub books: Vec<Book<MachineJudge<D>, CaseProvers<D>>>,
     pub answerers: Vec<Scripted<RunAnswerer<D>, D>>,
+    pub cases: Vec<&'a Case>,
 }
 
 /// How the provers of a case record and replay their runs, by its bound and the options, each of which is at least 1.
@@ -123,14 +131,15 @@ fn open_match<D: Replays>(
 }
 
 /// Opens the matches of loaded cases, in their order.
-fn open_matches<D: Replays>(
+fn open_matches<'a, D: Replays>(
     alloc: Global,
     d: D,
-    mut loads: Vec<LoadedCase>,
+    mut loads: Vec<LoadedCase<'a>>,
     options: Options,
-) -> Result<OpenedMatches<D>, Memory>
+) -> Result<OpenedMatches<'a, D>, Memory>
     requires fresh { All (λ l. IsFresh D.digest_of l.start) loads.items }
     requires options { AreAtLeastOne options }
+    ensures cases { IfOk result (λ opened. opened.cases.items ≡ map (λ l. l.case) loads.entry.items) }
     ensures openings { IfOk result (λ opened. openings opened.books.items ≡ map (opening_of_loaded D.digest_of) loads.entry.items) }
     ensures empty { IfOk result (λ opened. All (λ b. b.journal ≡ []) opened.books.items) }
     ensures says { IfOk result (λ opened. map ⟦<Scripted<RunAnswerer<D>, D> as Answerer>⟧.answers opened.answerers.items ≡ sayings ⟦<CaseProvers<D> as Provers>⟧.says (openings opened.books.items)) }
@@ -139,12 +148,14 @@ fn open_matches<D: Replays>(
         return Ok(OpenedMatches {
             books: Vec::new(alloc),
             answerers: Vec::new(alloc),
+            cases: Vec::new(alloc),
         });
     };
     answerers_say_in_order::<Scripted<RunAnswerer<D>, D>>();
     let OpenedMatches {
         mut books,
         mut answerers,
+        mut cases,
     } = open_matches(alloc, d, loads, options)?;
     let OpenedMatch {
         book,
@@ -152,62 +163,70 @@ fn open_matches<D: Replays>(
     } = open_match(alloc, d, last.case, last.start, options)?;
     books.push(book)?;
     answerers.append(&mut own)?;
-    Ok(OpenedMatches { books, answerers })
+    cases.push(last.case)?;
+    Ok(OpenedMatches {
+        books,
+        answerers,
+        cases,
+    })
 }
 
-/// The results of the matches of 1 to 8 loaded cases, in their order, played by commitments of the digester `d`. Posters go over the
-/// provers of all cases. Each case ends as it ends alone, whatever the others' provers do. Each machine has no output, and its chain is
-/// that of no output by `d`; each option is at least 1, and none changes the answer. As the code shows, the gate comes before each post: a
-/// program hands `OpenGate` over, and a test may wait there.
-pub fn ended_tasks<R: Threads + Wait + Sync, D: Replays, G: TaskGate + Sync>(
+/// Each of these cases with its end, of which there is one for each.
+fn with_ends<'a>(
+    alloc: Global,
+    cases: Vec<&'a Case>,
+    ends: Vec<Ended>,
+) -> Result<Vec<EndedCase<'a>>, Memory>
+    requires { length ends.items ≡ length cases.items }
+    ensures cases { IfOk result (λ ended. map (λ e. e.case) ended.items ≡ cases.entry.items) }
+    ensures ends { IfOk result (λ ended. map (λ e. e.end) ended.items ≡ ends.items) }
+{
+    let mut ended = Vec::with_capacity(alloc, ends.len())?;
+    let mut at = 0;
+    'ends: for end in ends {
+        ended.push(EndedCase {
+            case: cases[at],
+            end,
+        })?;
+        at += 1;
+    }
+    Ok(ended)
+}
+
+/// 1 to 8 loaded cases with the results of their matches, in their order, played by commitments of the digester `d`. Posters go over the
+/// provers of all cases. Each case ends as it ends alone, whatever the others' provers do, and its record may be paid. Each machine has no
+/// output, and its chain is that of no output by `d`; each option is at least 1, and none changes the answer. As the code shows, the gate
+/// comes before each post: a program hands `OpenGate` over, and a test may wait there.
+pub fn ended_tasks<'a, R: Threads + Wait + Sync, D: Replays, G: TaskGate + Sync>(
     rt: &R,
     alloc: Global,
     d: D,
-    loads: Vec<LoadedCase>,
+    loads: Vec<LoadedCase<'a>>,
     options: Options,
     gate: &G,
-) -> Result<Vec<Ended>, Memory>
+) -> Result<Vec<EndedCase<'a>>, Memory>
 where
     D: Send + Sync,
     requires some { 0 < length loads.items }
     requires few { length loads.items ≤ 8 }
     requires fresh { All (λ l. IsFresh D.digest_of l.start) loads.items }
     requires options { AreAtLeastOne options }
-    ensures { IfOk result (λ ends. ends.items ≡ map (ended_of_loaded D.digest_of) loads.entry.items) }
+    ensures ended { IfOk result (λ ends. ends.items ≡ map (ended_of_loaded D.digest_of) loads.entry.items) }
+    ensures settled_up { IfOk result (λ ends. All (λ e. IsSettledUp (length e.case.now.provers) e.end.match_record) ends.items) }
 {
+    records_of_cases_are_settled_up();
     let OpenedMatches {
         books,
         mut answerers,
+        cases,
     } = open_matches(alloc, d, loads, options)?;
-    decide(
+    let ends = decide(
         rt,
         alloc,
         books,
         answerers.as_mut_slice(),
         options.posters,
         gate,
-    )
-}
-
-/// The result of the match of one loaded case, as of one task. The record may be paid. The machine and the options are as for
-/// `ended_tasks`.
-pub fn ended_one<R: Threads + Wait + Sync, D: Replays>(
-    rt: &R,
-    alloc: Global,
-    d: D,
-    loaded: LoadedCase,
-    options: Options,
-) -> Result<Ended, Memory>
-where
-    D: Send + Sync,
-    requires fresh { IsFresh D.digest_of loaded.start }
-    requires options { AreAtLeastOne options }
-    ensures ended { IfOk result (λ end. end ≡ ended_of_loaded D.digest_of loaded.entry) }
-    ensures settled_up { IfOk result (λ end. IsSettledUp (length loaded.entry.case.now.provers) end.match_record) }
-{
-    records_of_cases_are_settled_up();
-    let mut loads = Vec::with_capacity(alloc, 1)?;
-    loads.push(loaded)?;
-    let mut ends = ended_tasks(rt, alloc, d, loads, options, &OpenGate)?;
-    Ok(ends.pop().unwrap())
+    )?;
+    with_ends(alloc, cases, ends)
 }

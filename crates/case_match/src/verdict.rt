@@ -8,9 +8,8 @@ ghost use Rattle.deposits.specs.Balances.{IsSettledUp};
 ghost use Rattle.case_match.specs.Match.{record_of_case, verdict_of_record, endings_of_cases, AreSettledUp};
 
 use crate::laws::records_of_cases_are_settled_up;
-use crate::opening::{LoadedCase, ended_one, ended_tasks, loaded_cases};
+use crate::opening::{EndedCase, LoadedCase, ended_tasks, loaded_cases};
 use crate::options::Options;
-use crate::referee::Ended;
 use case_reader::Case;
 use posters::OpenGate;
 use rd_base::Memory;
@@ -44,22 +43,21 @@ where
     ensures verdict { IfOk result (λ played. played.1 ≡ verdict_of_record D.digest_of (data_of case.now) (state_of start) played.0) }
     ensures settled_up { IfOk result (λ played. IsSettledUp (length case.now.provers) played.0) }
 {
-    let end = ended_one(rt, alloc, d, LoadedCase { case, start }, options)?;
+    let mut loads = Vec::with_capacity(alloc, 1)?;
+    loads.push(LoadedCase { case, start })?;
+    let mut ends = ended_tasks(rt, alloc, d, loads, options, &OpenGate)?;
+    let end = ends.pop().unwrap().end;
     Ok((end.match_record, end.verdict))
 }
 
 /// The record and the verdict of each match, in their order.
-fn endings(alloc: Global, ends: Vec<Ended>) -> Result<Vec<(Record, Verdict)>, Memory>
-    ensures { IfOk result (λ endings. endings.items ≡ map (λ end. (end.match_record, end.verdict)) ends.items) }
+fn endings(alloc: Global, ends: Vec<EndedCase>) -> Result<Vec<(Record, Verdict)>, Memory>
+    ensures { IfOk result (λ endings. endings.items ≡ map (λ e. (e.end.match_record, e.end.verdict)) ends.entry.items) }
 {
     let mut endings = Vec::with_capacity(alloc, ends.len())?;
-    'ends: for end in ends {
-        let Ended {
-            setup: _,
-            match_record,
-            verdict,
-        } = end;
-        endings.push((match_record, verdict))?;
+    'ends: for ended in ends {
+        let end = ended.end;
+        endings.push((end.match_record, end.verdict))?;
     }
     Ok(endings)
 }

@@ -32,7 +32,7 @@ use Rattle.image_reader.specs.Image.{Image}
 use Rattle.rv_step.specs.Loaded.{started}
 use Rattle.case_reader.specs.Case.{CaseData}
 use Rattle.open_match.specs.Laws.{HeadsArePlayable, HeadsHaveShortRuns, OpenMatchesAreRight, TrueAnswersHaveWireForms}
-use Rattle.delegate.specs.Loading.{within_limit, case_or_refusal, image_or_refusal, start_or_refusal}
+use Rattle.delegate.specs.Loading.{within_limit, case_or_refusal, image_by, start_or_refusal, of_case}
 use Rattle.delegate.specs.Outcome.{either_way}
 use Rattle.delegate.specs.Refusal.{too_long}
 use Rattle.delegate.specs.OfCase.{root_of_start, start_response, response_by, may_ask, answer_of_run, answer_response}
@@ -81,17 +81,17 @@ responds bytes c answer r = by (nat_lt 16777216 (length bytes))
     by false read then = ap either_way (then read)
 
 answers : (k : Kind) (bytes : List ℕ) (c : CaseData) (start : State) → may_ask c.bound k ≡ true → start_or_refusal Whole c ≡ Ok start → case_or_refusal bytes ≡ Ok c → answer_response k bytes ≡ Ok (answer_of_run k c start)
-unfolding answer_response
+unfolding of_case
 answers k bytes c start may loaded read = rw (read, may, loaded) refl
 
 begins : (bytes : List ℕ) (c : CaseData) (start : State) → start_or_refusal Whole c ≡ Ok start → case_or_refusal bytes ≡ Ok c → start_response bytes ≡ Ok (root_of_start start)
-unfolding start_response
+unfolding of_case
 begins bytes c start loaded read = rw (read, loaded) refl
 
 -- a start has no output, and the version of its case
 starts : (c : CaseData) (start : State) → start_or_refusal Whole c ≡ Ok start → (start.output ≡ []) × (start.version ≡ c.version)
 unfolding start_or_refusal
-starts c start = by (image_or_refusal Whole c)
+starts c start = by (image_by Whole c.format c.image)
   where
     by : (image : Result Image Response) → (image >>= (λ i. Ok (started c.version i.memory i.entry c.input))) ≡ Ok start → (start.output ≡ []) × (start.version ≡ c.version)
     by (Ok i) loaded =

@@ -1,5 +1,5 @@
 -- What a command that needs no runtime comes to is the outcome of all arguments that name it.
-use Rattle.std.proofs.Common.{◌≡◌, ℕ, ◌<◌, ◌≤◌, List, [], ◌∷◌, length, codes, Bool, true, Option, Result, Ok, Err, Some, IfOk, refl, sym, ap, subst, ◌∙◌}
+use Rattle.std.proofs.Common.{◌≡◌, ℕ, ◌<◌, ◌≤◌, List, [], ◌∷◌, length, codes, true, Option, Result, Ok, Err, Some, IfOk, refl, sym, ap, subst, ◌∙◌}
 use Rattle.command_line.specs.Words.{chosen}
 use Rattle.command_line.specs.declared.request.Command.{Command}
 use Rattle.command_line.specs.declared.request.Command.TheVariants as commands

@@ -40,21 +40,21 @@ use Rattle.case_match.specs.Match.{start_root, rules_of_case, setup_of, says_of_
 use Rattle.case_match.specs.TruthfulInCase.{IsInRange}
 use Rattle.digest_core.specs.Name.{digest_of}
 use Rattle.delegate.specs.Decided.{written_as, match_head, balances_in, before_verdict, response_to_case}
-use Rattle.delegate.specs.Loading.{image_or_refusal, start_or_refusal}
+use Rattle.delegate.specs.Loading.{LoadedData, image_by, start_or_refusal}
 use Rattle.delegate.specs.Refusal.{or_refusal}
 use Rattle.delegate.specs.commands.Judge.{judging}
 use Rattle.delegate.specs.commands.Audit.{text_refusal, ruling_of_text, response_to_finding, audit_response}
 use Rattle.delegate.specs.Auditable.{IsConfirmedByItsLine, IsAuditable, AreAuditable, WrittenTextsAreConfirmed, JudgesEndAlike}
 use Rattle.delegate.specs.InShort.{HasLastLine}
 use Rattle.delegate.specs.Outcome.{outcome}
-use Rattle.delegate.specs.Standing.{IsPlayed, CasesAreInRange}
+use Rattle.delegate.specs.Standing.{DecidesInRange}
 use Rattle.delegate.specs.declared.response.Subject.{Subject}
-use Rattle.delegate.specs.declared.response.Subject.TheVariants.{Whole}
+use Rattle.delegate.specs.declared.response.Subject.TheVariants.{Whole, Task}
 use Rattle.delegate.specs.declared.response.Response.{Response}
 use Rattle.delegate.specs.declared.response.Answered.TheVariants.{Done}
 use Rattle.delegate.proofs.OutcomeLemmas.{goes_on, of_command, outcome-of, under_limit}
-use Rattle.delegate.proofs.CaseLemmas.{outcome-case, one-case, task-stands, task-played}
-use Rattle.delegate.proofs.TaskLemmas.{start-at}
+use Rattle.delegate.proofs.CaseLemmas.{outcome-case, one-case, one-played, task-stands, task-played}
+use Rattle.delegate.proofs.TaskLemmas.{IsLoad, each-loads, all-at}
 use Rattle.delegate.proofs.HeadlineLemmas.{text-before}
 use Rattle.delegate.proofs.InShortLemmas.{line-ends, last-of}
 
@@ -157,19 +157,19 @@ texts-confirmed law one_line name c start auditing range same written short is =
 -- the run of a case starts in a state of the case's version
 start-version : (subject : Subject) (c : CaseData) (start : State) → start_or_refusal subject c ≡ Ok start → start.version ≡ c.version
 unfolding start_or_refusal
-start-version subject c start is = by (image_or_refusal subject c) is
+start-version subject c start is = by (image_by subject c.format c.image) is
   where
     by : (r : Result Image Response) → (r >>= (λ (image : Image). Ok (started c.version image.memory image.entry c.input))) ≡ Ok start → start.version ≡ c.version
     by (Ok image) loads = (let both : started c.version image.memory image.entry c.input ≡ start = cc loads in sym (ap (λ (s : State). s.version) both))
     by (Err refused) loads = absurd (cc loads)
 
-pub outcome-auditable : CasesAreTasks → WrittenTextsAreConfirmed → (words : List (List ℕ)) (bytes : List ℕ) → CasesAreInRange words bytes → IsAuditable words bytes (outcome words bytes)
+pub outcome-auditable : CasesAreTasks → WrittenTextsAreConfirmed → (words : List (List ℕ)) (bytes : List ℕ) → DecidesInRange (chosen words) bytes → IsAuditable words bytes (outcome words bytes)
 outcome-auditable law confirmed words bytes in_range name c start auditing is short asked =
     let m = judging Full name in
-    let played : IsPlayed m c start = in_range m is.asked (One c) (one-case law m.written bytes c is.reads) start is.loads in
+    let played = one-played m c start is.loads (in_range m is.asked (One c) (one-case law m.written bytes c is.reads)) in
     let same : outcome words bytes ≡ response_to_case m c start = outcome-case law words bytes m c start is in
     subst (λ (r : Response). IsConfirmedByItsLine auditing r.text) (sym same)
-    (confirmed name c start auditing played.range (start-version Whole c start is.loads) (played.written refl) (subst (λ (r : Response). length r.text ≤ 16777216) same short) asked)
+    (confirmed name c start auditing played.range (start-version Whole c start is.loads) (played.shown.written refl) (subst (λ (r : Response). length r.text ≤ 16777216) same short) asked)
 
 -- of tasks, the part of each
 
@@ -178,15 +178,15 @@ some-at [] i within = absurd (omega (arith, within))
 some-at (x ∷ xs) zero within = (x, refl)
 some-at (x ∷ xs) (suc i) within = some-at xs i (omega (arith, within))
 
-pub outcome-task-auditable : WrittenTextsAreConfirmed → (words : List (List ℕ)) (bytes : List ℕ) → CasesAreInRange words bytes → AreAuditable words bytes (outcome words bytes)
-outcome-task-auditable confirmed words bytes in_range name cs starts t auditing is some within asked =
+pub outcome-task-auditable : WrittenTextsAreConfirmed → (words : List (List ℕ)) (bytes : List ℕ) → DecidesInRange (chosen words) bytes → AreAuditable words bytes (outcome words bytes)
+outcome-task-auditable confirmed words bytes in_range name tasks t auditing is some within asked =
     let m = judging Full name in
-    let at = some-at cs (t - 1) (omega (arith, some, within)) in
-    let c = at.0 in
-    let own = start-at 1 cs starts (t - 1) c is.loads at.1 in
-    let played : IsPlayed m c own.start = task-played words bytes in_range m cs starts t c own.start is at.1 own.there in
+    let at = some-at tasks (t - 1) (omega (arith, some, within)) in
+    let task : LoadedData = at.0 in
+    let own = all-at IsLoad tasks (t - 1) task (each-loads (Task 1) is.cases tasks is.loads) at.1 in
+    let played = task-played words bytes in_range m tasks t task is at.1 in
     record {
-      part = (response_to_case m c own.start).text;
-      stands = task-stands words bytes m cs starts t c own.start is at.1 own.there;
-      confirmed = λ short. confirmed name c own.start auditing played.range (start-version own.subject c own.start own.loads) (played.written refl) short asked;
+      part = (response_to_case m task.case task.start).text;
+      stands = task-stands words bytes m tasks t task is at.1;
+      confirmed = λ short. confirmed name task.case task.start auditing played.range (start-version own.subject task.case task.start own.loads) (played.shown.written refl) short asked;
     }

@@ -26,15 +26,15 @@ use Rattle.delegate.specs.Decided.{summary, before_verdict, match_head, balances
 use Rattle.delegate.specs.Loading.{start_or_refusal}
 use Rattle.delegate.specs.commands.Big.{summing_up}
 use Rattle.delegate.specs.Headline.{HeadlineOfCases, AcceptsTheRun, ShowsCollision, IsCase}
-use Rattle.delegate.specs.InShort.{honest, accepting, colliding, EndsWith, EndsWithTwoStrings, big_start, big_bound, SaysOfBig, IsWrittenOf}
+use Rattle.delegate.specs.InShort.{honest, accepting, colliding, EndsWith, ShowsTwoStrings, big_start, big_bound, SaysOfBig, IsWrittenOf}
 use Rattle.delegate.specs.InShortLaw.{BigInShort}
 use Rattle.delegate.specs.Outcome.{decides, outcome}
 use Rattle.delegate.specs.Writing.{ForItsBytes}
 use Rattle.std.specs.Io.KnownBytes.{Appends}
-use Rattle.delegate.specs.Standing.{IsPlayed, CasesAreInRange}
+use Rattle.delegate.specs.Standing.{DecidesInRange}
 use Rattle.delegate.specs.declared.response.Subject.TheVariants.{Whole}
 use Rattle.delegate.specs.declared.response.Response.{Response}
-use Rattle.delegate.proofs.CaseLemmas.{outcome-case, one-case}
+use Rattle.delegate.proofs.CaseLemmas.{outcome-case, one-case, one-played}
 use Rattle.delegate.proofs.InShortLemmas.{honest-truthful, colliding-line, written-of}
 
 -- ONE OF ITS PROVERS IS `{}`
@@ -95,7 +95,7 @@ big_in_short headline untouched seed range bytes =
     by : AcceptsTheRun (summing_up seed) (response_to_case (summing_up seed) (big_data seed) (big_start seed)) (big_data seed) (big_start seed)
         ⊎ ShowsCollision (summing_up seed) (response_to_case (summing_up seed) (big_data seed) (big_start seed)) (big_data seed) (big_start seed)
         → EndsWith (accepting (state_at (big_start seed) big_bound)) (response_to_case (summing_up seed) (big_data seed) (big_start seed)).text
-        ⊎ EndsWithTwoStrings Sha256 (response_to_case (summing_up seed) (big_data seed) (big_start seed)).text
+        ⊎ ShowsTwoStrings EndsWith Sha256 (response_to_case (summing_up seed) (big_data seed) (big_start seed)).text
     by (inl accepts) = inl (
         let settled = record_of_case (digest_of Sha256) (big_data seed) (big_start seed) in
         let head = match_head Sha256 (big_data seed) (start_root (digest_of Sha256) (big_start seed)) in
@@ -111,18 +111,18 @@ big_in_short headline untouched seed range bytes =
               (shows.text ∙ ap (before_verdict (summary seed) head settled (balances_in (big_data seed) settled)) (colliding-line shows.pair.0 shows.pair.1));
         })
 
-pub outcome-of-big : CasesAreTasks → BigInShort → (words : List (List ℕ)) (bytes : List ℕ) → CasesAreInRange words bytes
+pub outcome-of-big : CasesAreTasks → BigInShort → (words : List (List ℕ)) (bytes : List ℕ) → DecidesInRange (chosen words) bytes
     → SaysOfBig words (status_number (outcome words bytes).answered) (outcome words bytes).text
 outcome-of-big law short words bytes in_range seed chosen_is =
     let is = big-asked words bytes seed chosen_is in
-    let played : IsPlayed (summing_up seed) (big_data seed) (big_start seed) =
-    in_range (summing_up seed) is.asked (One (big_data seed)) (one-case law (summary seed) bytes (big_data seed) is.reads) (big_start seed) is.loads in
+    let played = one-played (summing_up seed) (big_data seed) (big_start seed) is.loads
+    (in_range (summing_up seed) is.asked (One (big_data seed)) (one-case law (summary seed) bytes (big_data seed) is.reads)) in
     subst
-    (λ (r : Response). (status_number r.answered ≡ 0) × (EndsWith (accepting (state_at (big_start seed) big_bound)) r.text ⊎ EndsWithTwoStrings Sha256 r.text))
-    (sym (outcome-case law words bytes (summing_up seed) (big_data seed) (big_start seed) is)) (short seed played.range played.strings)
+    (λ (r : Response). (status_number r.answered ≡ 0) × (EndsWith (accepting (state_at (big_start seed) big_bound)) r.text ⊎ ShowsTwoStrings EndsWith Sha256 r.text))
+    (sym (outcome-case law words bytes (summing_up seed) (big_data seed) (big_start seed) is)) (short seed played.range played.shown.strings)
 
 pub big_written : CasesAreTasks → BigInShort → (left : Option (List ℕ)) (words : List (List ℕ)) (response : Response) (before now : Option (List ℕ))
-    → Appends before now response.text → ForItsBytes left (λ bytes. (response ≡ outcome words bytes) × CasesAreInRange words bytes)
+    → Appends before now response.text → ForItsBytes left (λ bytes. (response ≡ outcome words bytes) × DecidesInRange (chosen words) bytes)
     → IsWrittenOf (SaysOfBig words (status_number response.answered)) before now
 big_written law short left words response before now appended read =
     (written-of left words response before now (λ bytes. SaysOfBig words) appended (outcome-of-big law short words) read).2

@@ -1,6 +1,7 @@
 -- Arguments and bytes that are a case or tasks: what the program answers, and that each case is in range.
-use Rattle.std.proofs.Common.{◌≡◌, ℕ, ◌-◌, List, length, nat_lt, Option, Some, None, Result, Ok, Err, Bool, true, false, cond, refl, sym, ap, subst, ◌∙◌, slice_get, IfOk}
+use Rattle.std.proofs.Common.{◌≡◌, ℕ, ◌-◌, List, [], All, length, nat_lt, Option, Some, None, Result, Ok, Err, Bool, true, false, cond, refl, sym, ap, subst, ◌∙◌, slice_get, IfOk}
 use Rattle.std.specs.Option.{option_and_then}
+use Rattle.std.proofs.lemmas.List.Elements.{All-head}
 use Rattle.rd_base.specs.Results.{◌>>=◌}
 use Rattle.rv_step.specs.State.{State}
 use Rattle.case_reader.specs.Case.{CaseData, case_at}
@@ -13,22 +14,19 @@ use Rattle.command_line.specs.declared.request.MatchText.{MatchText}
 use Rattle.command_line.specs.declared.request.MatchText.TheVariants.{Report, Full}
 use Rattle.command_line.specs.declared.request.Command.{Command}
 use Rattle.command_line.specs.declared.request.Command.TheVariants.{Judge, Run, Roots, Audit, Listing, Big}
-use Rattle.case_match.specs.TruthfulInCase.{IsInRange}
 use Rattle.delegate.specs.Refusal.{too_long, case_refusal, task_refusal, or_refusal}
-use Rattle.delegate.specs.Loading.{within_limit, case_or_refusal, tasks_or_refusal, start_or_refusal, starts_or_refusal}
-use Rattle.digest_core.specs.Name.{digest_of}
-use Rattle.delegate.specs.Decided.{WhichText, report, full, summary, Deciding, written_as, case_for, tasks_within_limit, tasks_for, response_to_case, together, responses_to_cases, StandsUnder}
+use Rattle.delegate.specs.Loading.{within_limit, case_or_refusal, tasks_or_refusal, LoadedData, start_or_refusal, cases_of_tasks, first_subject, loads_or_refusal}
+use Rattle.delegate.specs.Decided.{WhichText, report, full, summary, Deciding, written_as, case_for, tasks_for, response_to_case, together, responses_to_cases, StandsUnder}
 use Rattle.delegate.specs.commands.Judge.{judging, response_to_tasks, judge_response}
 use Rattle.delegate.specs.commands.Big.{summing_up, big_response}
 use Rattle.delegate.specs.Outcome.{bytes_for, carried_out, decides, response_to, outcome}
-use Rattle.delegate.specs.Headline.{Headline, AreByteStrings, HeadlineOfCases, AnswersTheCase, KeepsTheTruthful, AnswersTheTasks, AreTasks, KeepsTheTruthfulOfTasks}
-use Rattle.case_match.specs.Match.{record_of_case, verdict_of_record}
-use Rattle.delegate.specs.Standing.{AreAllInRange, AreAllShown, AreAllPlayed, IsPlayed, AreInRangeOnceLoaded, AreInRangeIfThere, DecidesInRange, CasesAreInRange, Stands, IsEitherWay}
+use Rattle.delegate.specs.Headline.{Headline, HeadlineOfCases, AnswersTheCase, KeepsTheTruthful, AnswersTheTasks, AreTasks, KeepsTheTruthfulOfTasks}
+use Rattle.delegate.specs.Standing.{IsPlayed, AreInRangeOnceLoaded, AreInRangeIfThere, DecidesInRange, Stands, IsEitherWay}
 use Rattle.delegate.specs.declared.response.Subject.TheVariants.{Whole}
 use Rattle.delegate.specs.declared.response.Response.{Response}
 use Rattle.delegate.specs.declared.response.Stop.{Stop}
 use Rattle.delegate.proofs.OutcomeLemmas.{goes_on, both_steps, of_command, outcome-of}
-use Rattle.delegate.proofs.TaskLemmas.{decided-stands, played-of, played-at}
+use Rattle.delegate.proofs.TaskLemmas.{one-together, one-loaded, all-at, decided-stands}
 
 -- a command that decides answers by what it reads
 
@@ -39,14 +37,10 @@ judged-tasks text name tasks (Ok given) reads = goes_on _ _ _ reads
 judged-tasks text name tasks (Err e) reads = absurd (cc reads)
 
 -- whichever text is asked for, the tasks are those of the bytes
-pub tasks-read : (text : MatchText) (bytes : List ℕ) → tasks_for (written_as text) bytes ≡ tasks_within_limit bytes
+pub tasks-read : (text : MatchText) (bytes : List ℕ) → tasks_for (written_as text) bytes ≡ (within_limit bytes >>= tasks_or_refusal)
 unfolding tasks_for
 tasks-read Report bytes = refl
 tasks-read Full bytes = refl
-
-big-judged : (seed : ℕ) → big_response seed ≡ response_to_tasks (summing_up seed) (One (big_data seed))
-unfolding big_response response_to_tasks
-big-judged seed = refl
 
 abbrev Answered : Command → List ℕ → Deciding → TasksData → Type 0
 Answered command bytes m tasks = (bytes_for command bytes >>= (λ given. carried_out command given)) ≡ response_to_tasks m tasks
@@ -63,7 +57,7 @@ command-tasks (Big seed) bytes m tasks is reads =
     let own : tasks_for (summing_up seed).written bytes ≡ Ok tasks = subst (λ (x : Deciding). tasks_for x.written bytes ≡ Ok tasks) (sym m_is) reads in
     let tasks_are : One (big_data seed) ≡ tasks = cc own in
     subst (λ (x : Deciding). Answered (Big seed) bytes x tasks) m_is
-    (subst (λ (x : TasksData). Answered (Big seed) bytes (summing_up seed) x) tasks_are (big-judged seed))
+    (subst (λ (x : TasksData). Answered (Big seed) bytes (summing_up seed) x) tasks_are refl)
 command-tasks Run bytes m tasks is reads = absurd (cc is)
 command-tasks Roots bytes m tasks is reads = absurd (cc is)
 command-tasks Audit bytes m tasks is reads = absurd (cc is)
@@ -79,13 +73,13 @@ tasks-steps words bytes m tasks is reads = by (chosen words) refl
         let asked : decides command ≡ Some m = sym (ap (option_and_then decides) some) ∙ is in
         of_command words bytes command some ∙ command-tasks command bytes m tasks asked reads
 
-one-judged : (m : Deciding) (c : CaseData) (start : State) → start_or_refusal Whole c ≡ Ok start → response_to_tasks m (One c) ≡ Ok (response_to_case m c start)
+pub all-judged : (m : Deciding) (tasks : TasksData) (ls : List LoadedData) → loads_or_refusal (first_subject tasks) (cases_of_tasks tasks) ≡ Ok ls
+    → response_to_tasks m tasks ≡ Ok (together (first_subject tasks) (responses_to_cases m ls))
 unfolding response_to_tasks
-one-judged m c start loads = goes_on _ _ _ loads
+all-judged m tasks ls loads = goes_on _ _ _ loads
 
-many-judged : (m : Deciding) (cs : List CaseData) (starts : List State) → starts_or_refusal 1 cs ≡ Ok starts → response_to_tasks m (Many cs) ≡ Ok (together (responses_to_cases m cs starts))
-unfolding response_to_tasks
-many-judged m cs starts loads = goes_on _ _ _ loads
+one-judged : (m : Deciding) (c : CaseData) (start : State) → start_or_refusal Whole c ≡ Ok start → response_to_tasks m (One c) ≡ Ok (response_to_case m c start)
+one-judged m c start loads = all-judged m (One c) _ (one-loaded c start loads) ∙ ap Ok (one-together m c start)
 
 -- a case is read as one task
 
@@ -111,34 +105,38 @@ outcome-case law words bytes m c start is =
     outcome-of words bytes _ (tasks-steps words bytes m (One c) is.asked (one-case law m.written bytes c is.reads) ∙ one-judged m c start is.loads)
 
 pub outcome-tasks : (words : List (List ℕ)) (bytes : List ℕ) → AnswersTheTasks words bytes (outcome words bytes)
-outcome-tasks words bytes m cs starts is = outcome-of words bytes _ (tasks-steps words bytes m (Many cs) is.asked is.reads ∙ many-judged m cs starts is.loads)
+outcome-tasks words bytes m tasks is = outcome-of words bytes _ (tasks-steps words bytes m (Many is.cases) is.asked is.reads ∙ all-judged m (Many is.cases) tasks is.loads)
 
 -- the headline, of cases that are in range
 
-pub outcome-headline : CasesAreTasks → HeadlineOfCases → (words : List (List ℕ)) (bytes : List ℕ) → CasesAreInRange words bytes → KeepsTheTruthful words bytes (outcome words bytes)
+-- a case that is loaded was played as it is
+pub one-played : (m : Deciding) (c : CaseData) (start : State) → start_or_refusal Whole c ≡ Ok start → AreInRangeOnceLoaded m (One c) → IsPlayed m (record { case = c; start = start })
+one-played m c start loads all = All-head (IsPlayed m) (record { case = c; start = start }) [] (all _ (one-loaded c start loads))
+
+pub outcome-headline : CasesAreTasks → HeadlineOfCases → (words : List (List ℕ)) (bytes : List ℕ) → DecidesInRange (chosen words) bytes → KeepsTheTruthful words bytes (outcome words bytes)
 outcome-headline law headline words bytes in_range m c start p is truthful =
     subst (λ response. Headline m response c start p) (sym (outcome-case law words bytes m c start is))
-    (let played : IsPlayed m c start = in_range m is.asked (One c) (one-case law m.written bytes c is.reads) start is.loads in
-    headline m c start p played.range played.strings truthful)
+    (let played = one-played m c start is.loads (in_range m is.asked (One c) (one-case law m.written bytes c is.reads)) in
+    headline m c start p played.range played.shown.strings truthful)
 
 -- the text of a task stands under its line, and what its run shows
 
-pub task-stands : (words : List (List ℕ)) (bytes : List ℕ) (m : Deciding) (cs : List CaseData) (starts : List State) (t : ℕ) (c : CaseData) (start : State) → AreTasks words bytes m cs starts
-    → slice_get cs (t - 1) ≡ Some c → slice_get starts (t - 1) ≡ Some start → StandsUnder (length cs) t (response_to_case m c start).text (outcome words bytes).text
-task-stands words bytes m cs starts t c start is at from =
-    subst (λ (r : Response). StandsUnder (length cs) t (response_to_case m c start).text r.text) (sym (outcome-tasks words bytes m cs starts is)) (decided-stands m cs starts t c start is.loads at from)
+pub task-stands : (words : List (List ℕ)) (bytes : List ℕ) (m : Deciding) (tasks : List LoadedData) (t : ℕ) (task : LoadedData) → AreTasks words bytes m tasks
+    → slice_get tasks (t - 1) ≡ Some task → StandsUnder (length tasks) t (response_to_case m task.case task.start).text (outcome words bytes).text
+task-stands words bytes m tasks t task is at =
+    subst (λ (r : Response). StandsUnder (length tasks) t (response_to_case m task.case task.start).text r.text) (sym (outcome-tasks words bytes m tasks is)) (decided-stands m tasks t task at)
 
-pub task-played : (words : List (List ℕ)) (bytes : List ℕ) → CasesAreInRange words bytes → (m : Deciding) (cs : List CaseData) (starts : List State) (t : ℕ) (c : CaseData) (start : State)
-    → AreTasks words bytes m cs starts → slice_get cs (t - 1) ≡ Some c → slice_get starts (t - 1) ≡ Some start → IsPlayed m c start
-task-played words bytes in_range m cs starts t c start is at from = played-at m cs starts (t - 1) c start (in_range m is.asked (Many cs) is.reads starts is.loads) at from
+pub task-played : (words : List (List ℕ)) (bytes : List ℕ) → DecidesInRange (chosen words) bytes → (m : Deciding) (tasks : List LoadedData) (t : ℕ) (task : LoadedData)
+    → AreTasks words bytes m tasks → slice_get tasks (t - 1) ≡ Some task → IsPlayed m task
+task-played words bytes in_range m tasks t task is at = all-at (IsPlayed m) tasks (t - 1) task (in_range m is.asked (Many is.cases) is.reads tasks is.loads) at
 
-pub outcome-task-headline : HeadlineOfCases → (words : List (List ℕ)) (bytes : List ℕ) → CasesAreInRange words bytes → KeepsTheTruthfulOfTasks words bytes (outcome words bytes)
-outcome-task-headline headline words bytes in_range m cs starts t c start p is some at from truthful =
-    let played = task-played words bytes in_range m cs starts t c start is at from in
+pub outcome-task-headline : HeadlineOfCases → (words : List (List ℕ)) (bytes : List ℕ) → DecidesInRange (chosen words) bytes → KeepsTheTruthfulOfTasks words bytes (outcome words bytes)
+outcome-task-headline headline words bytes in_range m tasks t task p is some at truthful =
+    let played = task-played words bytes in_range m tasks t task is at in
     record {
-      part = response_to_case m c start;
-      stands = task-stands words bytes m cs starts t c start is at from;
-      keeps = headline m c start p played.range played.strings truthful;
+      part = response_to_case m task.case task.start;
+      stands = task-stands words bytes m tasks t task is at;
+      keeps = headline m task.case task.start p played.range played.shown.strings truthful;
     }
 
 -- what was read for a command is what is read of the bytes
@@ -162,36 +160,33 @@ same-tasks Roots bytes given m tasks is read reads = absurd (cc is)
 same-tasks Audit bytes given m tasks is read reads = absurd (cc is)
 same-tasks Listing bytes given m tasks is read reads = absurd (cc is)
 
-in-range : (words : List (List ℕ)) (bytes given : List ℕ) (command : Command) → chosen words ≡ Some command → bytes_for command bytes ≡ Ok given → DecidesInRange command given
-    → CasesAreInRange words bytes
+in-range : (words : List (List ℕ)) (bytes given : List ℕ) (command : Command) → chosen words ≡ Some command → bytes_for command bytes ≡ Ok given → DecidesInRange (Some command) given
+    → DecidesInRange (chosen words) bytes
 in-range words bytes given command taken read decided_in_range m is tasks reads =
     let asked : decides command ≡ Some m = sym (ap (option_and_then decides) taken) ∙ is in
     decided_in_range m asked tasks (same-tasks command bytes given m tasks asked read reads)
 
 -- what is refused isn't loaded
-refused-in-range : (words : List (List ℕ)) (bytes : List ℕ) (response : Response) → response_to words bytes ≡ Err response → CasesAreInRange words bytes
-refused-in-range words bytes response refused m is (One c) reads = λ start loads.
-    let both = sym refused ∙ (tasks-steps words bytes m (One c) is reads ∙ one-judged m c start loads) in
-    absurd (cc both)
-refused-in-range words bytes response refused m is (Many cs) reads = λ starts loads.
-    let both = sym refused ∙ (tasks-steps words bytes m (Many cs) is reads ∙ many-judged m cs starts loads) in
+refused-in-range : (words : List (List ℕ)) (bytes : List ℕ) (response : Response) → response_to words bytes ≡ Err response → DecidesInRange (chosen words) bytes
+refused-in-range words bytes response refused m is tasks reads = λ loads are.
+    let both = sym refused ∙ (tasks-steps words bytes m tasks is reads ∙ all-judged m tasks loads are) in
     absurd (cc both)
 
 -- the response in each of its cases
 
 abbrev pub IsIt : List (List ℕ) → List ℕ → Response → Type 0
-IsIt words bytes response = (response ≡ outcome words bytes) × CasesAreInRange words bytes
+IsIt words bytes response = (response ≡ outcome words bytes) × DecidesInRange (chosen words) bytes
 
 pub refused-is-it : (words : List (List ℕ)) (bytes : List ℕ) (response : Response) → response_to words bytes ≡ Err response → IsIt words bytes response
 refused-is-it words bytes response is = (sym (outcome-of words bytes _ is), refused-in-range words bytes response is)
 
 carried-is-it : (words : List (List ℕ)) (bytes given : List ℕ) (command : Command) (response : Response) → chosen words ≡ Some command → bytes_for command bytes ≡ Ok given
-    → carried_out command given ≡ Ok response → DecidesInRange command given → IsIt words bytes response
+    → carried_out command given ≡ Ok response → DecidesInRange (Some command) given → IsIt words bytes response
 carried-is-it words bytes given command response taken read is decided_in_range =
     (sym (outcome-of words bytes _ (both_steps words bytes given command taken read ∙ is)), in-range words bytes given command taken read decided_in_range)
 
 pub ended-is-it : (words : List (List ℕ)) (bytes given : List ℕ) (command : Command) (carried : Result Response Stop) (response : Response) → chosen words ≡ Some command
-    → bytes_for command bytes ≡ Ok given → Stands (λ (done : Response). done) carried (carried_out command given) → IfOk carried (λ done. DecidesInRange command given)
+    → bytes_for command bytes ≡ Ok given → Stands (λ (done : Response). done) carried (carried_out command given) → IfOk carried (λ done. DecidesInRange (Some command) given)
     → IsEitherWay carried response → IsIt words bytes response
 ended-is-it words bytes given command (Ok done) response taken read stands decided_in_range is =
     subst (IsIt words bytes) (sym is) (carried-is-it words bytes given command done taken read stands decided_in_range)
@@ -203,11 +198,9 @@ ended-is-it words bytes given command (Err stop) response taken read stands deci
 pub same-ok : {X E : Type 0} (r : Result X E) (x y : X) → r ≡ Ok x → r ≡ Ok y → x ≡ y
 same-ok r x y one other = (let both = sym one ∙ other in cc both)
 
-pub one-in-range : (m : Deciding) (c : CaseData) (start : State) → start_or_refusal Whole c ≡ Ok start → IsPlayed m c start → AreInRangeOnceLoaded m (One c)
-one-in-range m c start loads played other is = subst (IsPlayed m c) (same-ok (start_or_refusal Whole c) start other loads is) played
-
-pub many-in-range : (m : Deciding) (cs : List CaseData) (starts : List State) → starts_or_refusal 1 cs ≡ Ok starts → AreAllInRange cs starts → AreAllShown (digest_of m.digest) m cs starts → AreInRangeOnceLoaded m (Many cs)
-many-in-range m cs starts loads ranges shown other is = subst (AreAllPlayed m cs) (same-ok (starts_or_refusal 1 cs) starts other loads is) (played-of m cs starts ranges shown)
+pub loads-in-range : (m : Deciding) (tasks : TasksData) (loads : List LoadedData) → loads_or_refusal (first_subject tasks) (cases_of_tasks tasks) ≡ Ok loads → All (IsPlayed m) loads
+    → AreInRangeOnceLoaded m tasks
+loads-in-range m tasks loads are played other is = subst (All (IsPlayed m)) (same-ok (loads_or_refusal (first_subject tasks) (cases_of_tasks tasks)) loads other are is) played
 
 pub judged-in-range : (text : MatchText) (name : DigestName) (bytes : List ℕ) (tasks : TasksData) → tasks_or_refusal bytes ≡ Ok tasks → AreInRangeOnceLoaded (judging text name) tasks
     → AreInRangeIfThere (judging text name) (tasks_for (written_as text) bytes)
@@ -218,29 +211,28 @@ judged-in-range text name bytes tasks reads range other is =
     by true e = absurd (cc e)
     by false e = e
 
-pub summary-in-range : (seed : ℕ) (bytes : List ℕ) (c : CaseData) (start : State) → c ≡ big_data seed → start_or_refusal Whole c ≡ Ok start → IsInRange c start
-    → AreByteStrings (verdict_of_record (digest_of (summing_up seed).digest) c start (record_of_case (digest_of (summing_up seed).digest) c start)) → AreInRangeIfThere (summing_up seed) (tasks_for (summary seed) bytes)
+pub summary-in-range : (seed : ℕ) (bytes : List ℕ) (m : Deciding) (tasks : TasksData) → m ≡ summing_up seed → tasks ≡ One (big_data seed) → AreInRangeOnceLoaded m tasks
+    → AreInRangeIfThere (summing_up seed) (tasks_for (summary seed) bytes)
 unfolding tasks_for
-summary-in-range seed bytes c start same loads range strings other is =
-    let both : Ok (One c) ≡ Ok other = ap (λ (x : CaseData). Ok (One x)) same ∙ is in
-    subst (AreInRangeOnceLoaded (summing_up seed)) (same-ok (Ok (One c)) (One c) other refl both)
-    (one-in-range (summing_up seed) c start loads (record { range = range; strings = strings; written = λ is. absurd (cc is) }))
+summary-in-range seed bytes m tasks m_is tasks_are range other is =
+    let both : tasks ≡ other = cc (tasks_are, is) in
+    subst (λ (x : Deciding). AreInRangeOnceLoaded x other) m_is (subst (AreInRangeOnceLoaded m) both range)
 
-pub big-stands : (seed : ℕ) (c : CaseData) (start : State) (response : Response) → c ≡ big_data seed → start_or_refusal Whole c ≡ Ok start → response ≡ response_to_case (summing_up seed) c start → big_response seed ≡ Ok response
-big-stands seed c start response same loads is =
-    big-judged seed
-    ∙ (ap (λ (x : CaseData). response_to_tasks (summing_up seed) (One x)) (sym same)
-    ∙ (one-judged (summing_up seed) c start loads ∙ ap Ok (sym is)))
+pub big-stands : (seed : ℕ) (m : Deciding) (tasks : TasksData) (r : Result Response Stop) → m ≡ summing_up seed → tasks ≡ One (big_data seed)
+    → Stands (λ (done : Response). done) r (response_to_tasks m tasks) → Stands (λ (done : Response). done) r (big_response seed)
+big-stands seed m tasks r m_is tasks_are stands =
+    subst (λ (x : TasksData). Stands (λ (done : Response). done) r (response_to_tasks (summing_up seed) x)) tasks_are
+    (subst (λ (x : Deciding). Stands (λ (done : Response). done) r (response_to_tasks x tasks)) m_is stands)
 
 -- of a command
 
-pub judge-in-range : (command : Command) (text : MatchText) (name : DigestName) (bytes : List ℕ) → command ≡ Judge text name → AreInRangeIfThere (judging text name) (tasks_for (written_as text) bytes) → DecidesInRange command bytes
+pub judge-in-range : (command : Command) (text : MatchText) (name : DigestName) (bytes : List ℕ) → command ≡ Judge text name → AreInRangeIfThere (judging text name) (tasks_for (written_as text) bytes) → DecidesInRange (Some command) bytes
 judge-in-range command text name bytes is range m asked =
     let both : Some (judging text name) ≡ Some m = sym (ap decides is) ∙ asked in
     let m_is : judging text name ≡ m = cc both in
     subst (λ (x : Deciding). AreInRangeIfThere x (tasks_for x.written bytes)) m_is range
 
-pub big-in-range : (command : Command) (seed : ℕ) (bytes : List ℕ) → command ≡ Big seed → AreInRangeIfThere (summing_up seed) (tasks_for (summary seed) bytes) → DecidesInRange command bytes
+pub big-in-range : (command : Command) (seed : ℕ) (bytes : List ℕ) → command ≡ Big seed → AreInRangeIfThere (summing_up seed) (tasks_for (summary seed) bytes) → DecidesInRange (Some command) bytes
 big-in-range command seed bytes is range m asked =
     let both : Some (summing_up seed) ≡ Some m = sym (ap decides is) ∙ asked in
     let m_is : summing_up seed ≡ m = cc both in

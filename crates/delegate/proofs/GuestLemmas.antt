@@ -1,7 +1,7 @@
 -- What a guest puts out stands in the lines that are written of its run.
 use Rattle.std.proofs.Common.{◌≡◌, ◌⊎◌, inl, inr, ℕ, ◌/◌, ◌%◌, ◌≤◌, ◌++◌, List, [], ◌∷◌, codes, Option, Ok, refl, sym, ap, subst, ◌∙◌, arith}
 use Rattle.std.specs.Fmt.{digits}
-use Rattle.std.specs.Prelude.{All, Contains, zip}
+use Rattle.std.specs.Prelude.{All, zip}
 use Rattle.std.proofs.lemmas.List.Elements.{All-nil, All-cons, All-head, All-tail}
 use Rattle.rd_base.specs.declared.status.Status.{Status}
 use Rattle.rd_base.specs.declared.status.Status.TheVariants.{Exited}
@@ -22,8 +22,8 @@ use Rattle.guests.specs.Guest.{HasPutOut}
 use Rattle.guests.specs.Sum.{byte_total, summed_bytes, SeedsAreSummed}
 use Rattle.guests.specs.Adler32.{adler32_of}
 use Rattle.guests.specs.Adler32File.{adler32_file, FileLoads, FileComputesAdler32}
-use Rattle.delegate.specs.InShort.{ImageRule, honest, accepting, HasLastLine, ShowsTwoStrings, Accepts, AnswersWith, Collides, TaskEnds, EndsWith, EndsWithTwoStrings, IsStartOf, Sentence, big_start, big_bound, SaysOfBig, IsWrittenOf}
-use Rattle.delegate.specs.Guests.{exited_with, SaysTheSum, IsChecksumCase, accepting_checksum, SaysTheChecksum}
+use Rattle.delegate.specs.InShort.{ImageRule, accepting, HasLastLine, ShowsTwoStrings, Accepts, AnswersWith, Collides, TaskEnds, EndsWith, IsStartOf, Sentence, big_start, big_bound, SaysOfBig, IsWrittenOf}
+use Rattle.delegate.specs.Guests.{exited_with, SaysTheSum, IsChecksumCase, ChecksumEnds, SaysTheChecksum}
 
 -- what is said of a run that has put out some bytes
 put-out-text : (status : Status) (output : List ℕ) (b : ℕ) (bytes : List ℕ) → status ≡ Exited 0 → output ≡ b ∷ bytes → answer_text status output ≡ exited_with (b ∷ bytes)
@@ -47,7 +47,7 @@ AcceptsSum = (seed : ℕ) → accepting (state_at (big_start seed) big_bound) �
 says-sum : AcceptsSum → (words : List (List ℕ)) (status : ℕ) (text : List ℕ) → SaysOfBig words status text → SaysTheSum words status text
 says-sum law words status text says seed chosen_is =
     let said = says seed chosen_is in
-    subst (λ line. (status ≡ 0) × (EndsWith line text ⊎ EndsWithTwoStrings Sha256 text)) (law seed) said
+    subst (λ line. (status ≡ 0) × (EndsWith line text ⊎ ShowsTwoStrings EndsWith Sha256 text)) (law seed) said
 
 pub sum_written : AcceptsSum → (words : List (List ℕ)) (status : ℕ) (before now : Option (List ℕ))
     → IsWrittenOf (SaysOfBig words status) before now → IsWrittenOf (SaysTheSum words status) before now
@@ -95,7 +95,7 @@ accepts-or-collides name line final status text is (inl accepts) = inl (accepts.
 accepts-or-collides name line final status text is (inr collides) = inr collides
 
 accepts-or-shows : (name : DigestName) (line : List ℕ) (final : State) (text : List ℕ) → answer_text final.status final.output ≡ line
-    → HasLastLine (accepting final) text ⊎ ShowsTwoStrings name text → HasLastLine (codes "accept " ++ line) text ⊎ ShowsTwoStrings name text
+    → HasLastLine (accepting final) text ⊎ ShowsTwoStrings HasLastLine name text → HasLastLine (codes "accept " ++ line) text ⊎ ShowsTwoStrings HasLastLine name text
 accepts-or-shows name line final text is (inl accepts) = inl (subst (λ l. HasLastLine (codes "accept " ++ l) text) is accepts)
 accepts-or-shows name line final text is (inr shows) = inr shows
 
@@ -104,22 +104,19 @@ answers-so : (line : List ℕ) (final : State) (status : ℕ) (text : List ℕ) 
 answers-so line final status text is answers = (answers.done, answers.line ∙ ap (λ l. codes "answer " ++ (l ++ codes "\n")) is)
 
 -- of a task
-abbrev TaskEndsSo : DigestName → CaseData × List ℕ → Type 0
-TaskEndsSo name task = IsChecksumCase task.0 → Contains task.0.provers honest → HasLastLine (accepting_checksum task.0) task.1 ⊎ ShowsTwoStrings name task.1
-
 task-so : (IsImage : ImageRule) → ReadsElf IsImage → FileLoads → FileComputesAdler32 → (name : DigestName) (c : CaseData) (text : List ℕ) → IsReadInput c.input
-    → TaskEnds IsImage name (c, text) → TaskEndsSo name (c, text)
+    → TaskEnds IsImage name (c, text) → ChecksumEnds name (c, text)
 task-so IsImage elf loads law name c text range ends is plays =
     let start = start-of c loads.0 in
     accepts-or-shows name (exited_with (adler32_of c.input)) (state_at start c.bound) text (checksum-text law c loads.0 loads.1 range is)
     (ends start (checksum-start IsImage elf c loads.0 loads.1 is) plays)
 
 tasks-so : (IsImage : ImageRule) → ReadsElf IsImage → FileLoads → FileComputesAdler32 → (name : DigestName) (cs : List CaseData) (texts : List (List ℕ))
-    → All (λ (c : CaseData). IsReadInput c.input) cs → All (TaskEnds IsImage name) (zip cs texts) → All (TaskEndsSo name) (zip cs texts)
-tasks-so IsImage elf loads law name [] texts ranges ends = All-nil (TaskEndsSo name)
-tasks-so IsImage elf loads law name (c ∷ cs) [] ranges ends = All-nil (TaskEndsSo name)
+    → All (λ (c : CaseData). IsReadInput c.input) cs → All (TaskEnds IsImage name) (zip cs texts) → All (ChecksumEnds name) (zip cs texts)
+tasks-so IsImage elf loads law name [] texts ranges ends = All-nil (ChecksumEnds name)
+tasks-so IsImage elf loads law name (c ∷ cs) [] ranges ends = All-nil (ChecksumEnds name)
 tasks-so IsImage elf loads law name (c ∷ cs) (text ∷ texts) ranges ends =
-    All-cons (TaskEndsSo name) (c, text) (zip cs texts)
+    All-cons (ChecksumEnds name) (c, text) (zip cs texts)
     (task-so IsImage elf loads law name c text (All-head (λ (d : CaseData). IsReadInput d.input) c cs ranges) (All-head (TaskEnds IsImage name) (c, text) (zip cs texts) ends))
     (tasks-so IsImage elf loads law name cs texts (All-tail (λ (d : CaseData). IsReadInput d.input) c cs ranges) (All-tail (TaskEnds IsImage name) (c, text) (zip cs texts) ends))
 

@@ -22,10 +22,8 @@ use Rattle.transcript_text.specs.Laws.{NothingIsSaidAgainstTheTruthful}
 use Rattle.case_match.specs.Earnings.{WhoLivesInACaseWinsAll}
 use Rattle.case_match.specs.Match.{start_root, rules_of_case, says_of_case, record_of_case, verdict_of_record, truth_of_case}
 use Rattle.case_match.specs.TruthfulInCase.{IsSafeInCase, TruthfulProversOfCasesAreSafe}
-use Rattle.command_line.specs.declared.request.MatchText.{MatchText}
-use Rattle.command_line.specs.declared.request.MatchText.TheVariants.{Report, Full}
 use Rattle.digest_core.specs.Name.{digest_of}
-use Rattle.delegate.specs.Decided.{WhichText, report, full, summary, written_as, Deciding, match_text, answered_by, match_head, balances_in, before_verdict, answered_for, response_to_case}
+use Rattle.delegate.specs.Decided.{WhichText, report, full, summary, Deciding, match_text, match_head, balances_in, before_verdict, answered_for, response_to_case}
 use Rattle.transcript_text.specs.declared.text.Head.{Head}
 use Rattle.delegate.specs.declared.response.Answered.TheVariants.{Done}
 use Rattle.delegate.specs.Headline.{AcceptsTheRun, ShowsCollision, AreByteStrings, HeadlineOfCases}
@@ -62,11 +60,6 @@ pub text-before : (written : WhichText) (head : Head) (settled : Record) (balanc
 text-before report head settled balances verdict = refl
 text-before full head settled balances verdict = refl
 text-before (summary seed) head settled balances verdict = refl
-
--- whichever text `judge` writes, it answers by the verdict
-pub answered_as : (text : MatchText) (verdict : Verdict) → answered_by verdict ≡ answered_for (written_as text) verdict
-answered_as Report verdict = refl
-answered_as Full verdict = refl
 
 -- where a claim is accepted the answer is that all is done
 accepts-done : (written : WhichText) (n : ℕ) → answered_for written (Accept n) ≡ Done

@@ -24,14 +24,14 @@ use Rattle.transcript_text.specs.FullLines.{refereed_text, move_text, moves_text
 use Rattle.command_line.specs.Words.{chosen}
 use Rattle.command_line.specs.declared.request.MatchText.{MatchText}
 use Rattle.command_line.specs.declared.request.MatchText.TheVariants.{Report, Full}
-use Rattle.command_line.specs.declared.request.Command.TheVariants.{Judge, Run}
+use Rattle.command_line.specs.declared.request.Command.TheVariants.{Run}
 use Rattle.case_match.specs.Match.{start_root, record_of_case}
 use Rattle.case_match.specs.TruthfulInCase.{IsInRange, IsTruthfulInCase}
 use Rattle.case_match.specs.HonestScripts.{UntouchedProversAreTruthful}
 use Rattle.delegate.specs.Answered.{status_number}
 use Rattle.digest_core.specs.Name.{digest_of}
 use Rattle.delegate.specs.Decided.{written_as, before_verdict, answered_for, match_head, balances_in, response_to_case, case_for}
-use Rattle.delegate.specs.Loading.{start_or_refusal}
+use Rattle.delegate.specs.Loading.{start_or_refusal, of_case}
 use Rattle.delegate.specs.Refusal.{or_refusal, case_refusal}
 use Rattle.delegate.specs.commands.Judge.{judging}
 use Rattle.delegate.specs.commands.Run.{run_response, answer_of_run}
@@ -40,12 +40,12 @@ use Rattle.transcript_text.specs.TaskParts.{TextsAreTaskParts}
 use Rattle.delegate.specs.InShort.{AskForTheMatch, AskForTheRun, IsImageOf, IsStartOf, IsCaseOf, honest, HasLastLine, accepting, colliding, Collides, AcceptsOrCollides, AnswersWith, SaysInShort, IsWrittenOf}
 use Rattle.delegate.specs.InShortLaw.{HeadlineInShort, JudgeAcceptsWhatRunPrints}
 use Rattle.delegate.specs.Outcome.{decides, outcome}
-use Rattle.delegate.specs.Standing.{IsPlayed, CasesAreInRange}
+use Rattle.delegate.specs.Standing.{DecidesInRange}
 use Rattle.delegate.specs.Writing.{ForItsBytes}
 use Rattle.delegate.specs.declared.response.Subject.TheVariants.{Whole}
 use Rattle.delegate.specs.declared.response.Response.{Response}
 use Rattle.delegate.proofs.OutcomeLemmas.{goes_on, under_limit, of_command, outcome-of, for_its_bytes}
-use Rattle.delegate.proofs.CaseLemmas.{outcome-case, one-case}
+use Rattle.delegate.proofs.CaseLemmas.{outcome-case, one-case, one-played}
 use Rattle.delegate.proofs.TasksInShortLemmas.{start-is, tasks-in-short}
 
 -- TEXTS THAT END A LINE
@@ -180,18 +180,18 @@ asked-is : (words : List (List ℕ)) (bytes : List ℕ) (name : DigestName) (c :
 asked-is words bytes name c start asks reads starts =
     record { asked = ap (option_and_then decides) asks.chosen_is; reads = case-is asks.text bytes c reads; loads = start-is Whole c start starts }
 
-judge-in-short : CasesAreTasks → HeadlineInShort → (words : List (List ℕ)) (bytes : List ℕ) → CasesAreInRange words bytes → (name : DigestName) (c : CaseData) (start : State)
+judge-in-short : CasesAreTasks → HeadlineInShort → (words : List (List ℕ)) (bytes : List ℕ) → DecidesInRange (chosen words) bytes → (name : DigestName) (c : CaseData) (start : State)
     → AskForTheMatch words name → IsCaseOf bytes c → IsStartOf IsImageOf c start → Contains c.provers honest
     → AcceptsOrCollides name (state_at start c.bound) (status_number (outcome words bytes).answered) (outcome words bytes).text
 judge-in-short law short words bytes in_range name c start asks reads starts contains =
     let m = judging asks.text name in
     let is = asked-is words bytes name c start asks reads starts in
-    let played : IsPlayed m c start = in_range m is.asked (One c) (one-case law (written_as asks.text) bytes c is.reads) start is.loads in
+    let played = one-played m c start is.loads (in_range m is.asked (One c) (one-case law (written_as asks.text) bytes c is.reads)) in
     subst (λ (r : Response). AcceptsOrCollides name (state_at start c.bound) (status_number r.answered) r.text) (sym (outcome-case law words bytes m c start is))
-    (short asks.text name c start played.range played.strings contains)
+    (short asks.text name c start played.range played.shown.strings contains)
 
 run-is : (bytes : List ℕ) (c : CaseData) (start : State) → case_at bytes ≡ Ok c → start_or_refusal Whole c ≡ Ok start → run_response bytes ≡ Ok (answer_of_run c start)
-unfolding run_response
+unfolding of_case
 run-is bytes c start reads loads = goes_on _ _ _ (ap (or_refusal (case_refusal Whole)) reads) ∙ goes_on _ _ _ loads
 
 run-in-short : (words : List (List ℕ)) (bytes : List ℕ) (c : CaseData) (start : State) → AskForTheRun words → IsCaseOf bytes c → IsStartOf IsImageOf c start
@@ -200,7 +200,7 @@ run-in-short words bytes c start chosen_is reads starts =
     let is : outcome words bytes ≡ answer_of_run c start = outcome-of words bytes _ (of_command words bytes Run chosen_is ∙ (goes_on _ _ _ (under_limit bytes reads.short) ∙ run-is bytes c start reads.reads (start-is Whole c start starts))) in
     subst (λ (r : Response). AnswersWith (state_at start c.bound) (status_number r.answered) r.text) (sym is) (record { done = refl; line = refl })
 
-pub outcome-in-short : CasesAreTasks → TextsAreTaskParts → HeadlineInShort → (words : List (List ℕ)) (bytes : List ℕ) → CasesAreInRange words bytes
+pub outcome-in-short : CasesAreTasks → TextsAreTaskParts → HeadlineInShort → (words : List (List ℕ)) (bytes : List ℕ) → DecidesInRange (chosen words) bytes
     → SaysInShort words bytes (status_number (outcome words bytes).answered) (outcome words bytes).text
 outcome-in-short law parts short words bytes in_range =
     record { judge = judge-in-short law short words bytes in_range; judge_tasks = tasks-in-short parts short words bytes in_range; run = run-in-short words bytes }
@@ -224,8 +224,8 @@ judge_accepts judging running bytes judge_status judge_text run_status run_text 
 -- WHAT WAS WRITTEN
 
 pub written-of : (left : Option (List ℕ)) (words : List (List ℕ)) (response : Response) (before now : Option (List ℕ)) (P : List ℕ → ℕ → List ℕ → Type 0)
-    → Appends before now response.text → ((bytes : List ℕ) → CasesAreInRange words bytes → P bytes (status_number (outcome words bytes).answered) (outcome words bytes).text)
-    → ForItsBytes left (λ bytes. (response ≡ outcome words bytes) × CasesAreInRange words bytes)
+    → Appends before now response.text → ((bytes : List ℕ) → DecidesInRange (chosen words) bytes → P bytes (status_number (outcome words bytes).answered) (outcome words bytes).text)
+    → ForItsBytes left (λ bytes. (response ≡ outcome words bytes) × DecidesInRange (chosen words) bytes)
     → ForItsBytes left (λ bytes. IsWrittenOf (P bytes (status_number response.answered)) before now)
 written-of left words response before now P appended holds read =
     for_its_bytes left _ _
@@ -236,7 +236,7 @@ written-of left words response before now P appended holds read =
     }) read
 
 pub short_written : CasesAreTasks → TextsAreTaskParts → HeadlineInShort → (left : Option (List ℕ)) (words : List (List ℕ)) (response : Response) (before now : Option (List ℕ))
-    → Appends before now response.text → ForItsBytes left (λ bytes. (response ≡ outcome words bytes) × CasesAreInRange words bytes)
+    → Appends before now response.text → ForItsBytes left (λ bytes. (response ≡ outcome words bytes) × DecidesInRange (chosen words) bytes)
     → ForItsBytes left (λ bytes. IsWrittenOf (SaysInShort words bytes (status_number response.answered)) before now)
 short_written law parts short left words response before now appended read =
     written-of left words response before now (SaysInShort words) appended (outcome-in-short law parts short words) read

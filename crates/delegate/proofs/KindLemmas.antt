@@ -1,24 +1,20 @@
 -- What every outcome is: an answer of the command that the arguments name.
-use Rattle.std.proofs.Common.{◌≡◌, ℕ, List, Option, Some, None, Bool, true, false, codes, refl, sym, ap, subst, ◌∙◌, ◌↔◌}
+use Rattle.std.proofs.Common.{◌≡◌, ℕ, List, [], ◌∷◌, Option, Some, None, Bool, true, false, codes, refl, sym, ap, subst, ◌∙◌, ◌↔◌}
 use Rattle.std.proofs.lemmas.Bool.{false≢true}
-use Rattle.tournament.specs.declared.reading.Verdict.{Verdict}
-use Rattle.tournament.specs.declared.reading.Verdict.TheVariants.{Accept, NoneLeft, Collision as Collided}
 use Rattle.case_reader.specs.declared.fault.TaskFault.{TaskFault}
 use Rattle.case_reader.specs.declared.fault.TaskFault.TheVariants as faults
 use Rattle.transcript_text.specs.declared.text.Stated.{Stated}
 use Rattle.audit.specs.declared.finding.Audit.{Audit}
 use Rattle.audit.specs.declared.finding.Audit.TheVariants.{Confirmed, Refused}
-use Rattle.command_line.specs.declared.request.MatchText.{MatchText}
-use Rattle.command_line.specs.declared.request.MatchText.TheVariants.{Report, Full}
-use Rattle.case_match.specs.Match.{record_of_case, verdict_of_record}
 use Rattle.command_line.specs.Words.{chosen}
 use Rattle.command_line.specs.declared.request.Command.{Command}
 use Rattle.command_line.specs.declared.request.Command.TheVariants.{Judge, Run, Roots, Listing, Big, Audit as AuditOf}
 use Rattle.delegate.specs.Answered.{is_outcome, is_of_case, is_of_match, is_of_text, is_done, is_answer_of, is_answer_to}
 use Rattle.delegate.specs.Refusal.{usage, task_refusal}
-use Rattle.digest_core.specs.Name.{digest_of}
-use Rattle.delegate.specs.Decided.{written_as, answered_for, responses_to_cases}
+use Rattle.delegate.specs.Loading.{LoadedData}
+use Rattle.delegate.specs.Decided.{gravest, responses_to_cases}
 use Rattle.delegate.specs.commands.Judge.{judging}
+use Rattle.delegate.specs.commands.Big.{summing_up}
 use Rattle.delegate.specs.commands.Audit.{response_to_finding}
 use Rattle.delegate.specs.Outcome.{outcome}
 use Rattle.delegate.specs.Answering.{EachCommandHasItsAnswers}
@@ -48,14 +44,6 @@ case-kind is done unread unloaded long = record {
   done = λ text. done;
 }
 
-verdict-kind : (text : MatchText) (verdict : Verdict) → is_of_match (answered_for (written_as text) verdict) ≡ true
-verdict-kind Report (Accept number) = refl
-verdict-kind Report NoneLeft = refl
-verdict-kind Report (Collided x y) = refl
-verdict-kind Full (Accept number) = refl
-verdict-kind Full NoneLeft = refl
-verdict-kind Full (Collided x y) = refl
-
 task-kind : (fault : TaskFault) → Answers is_of_match (task_refusal fault)
 task-kind (faults.Whole fault) = refl
 task-kind (faults.Task t fault) = refl
@@ -65,18 +53,22 @@ found-kind : (stated : Stated) (finding : Audit) → Answers is_of_text (respons
 found-kind stated (Confirmed verdict) = refl
 found-kind stated (Refused line cause) = refl
 
+-- all is done with summaries
+summaries-done : (seed : ℕ) (loads : List LoadedData) → is_done (gravest (responses_to_cases (summing_up seed) loads)) ≡ true
+summaries-done seed [] = refl
+summaries-done seed (l ∷ loads) = summaries-done seed loads
+
 parts : (command : Command) → OfCommand (Answers (is_answer_of command)) command
 parts (Judge text name) = record {
   of_cases = case-kind (is_answer_of (Judge text name)) refl refl refl refl;
   untold = λ bytes fault e. task-kind fault;
-  one = λ c start. verdict-kind text (verdict_of_record (digest_of name) c start (record_of_case (digest_of name) c start));
-  many = λ cs starts. gravest-is is_of_match true refl refl refl (responses_to_cases (judging text name) cs starts);
+  decided = λ subject loads. gravest-is is_of_match true refl refl refl (responses_to_cases (judging text name) loads);
 }
 parts Run = case-kind (is_answer_of Run) refl refl refl refl
 parts Roots = case-kind (is_answer_of Roots) refl refl refl refl
 parts Listing = case-kind (is_answer_of Listing) refl refl refl refl
 parts AuditOf = record { long = refl; unread = λ bytes fault e. refl; finding = found-kind }
-parts (Big seed) = λ c start. refl
+parts (Big seed) = λ subject loads. summaries-done seed loads
 
 pub start-kind : (bytes : List ℕ) → Answers is_of_case (response_by start_response bytes)
 start-kind bytes = response-of (Answers is_of_case) refl start_response (start-of (Answers is_of_case) (case-kind is_of_case refl refl refl refl)) bytes

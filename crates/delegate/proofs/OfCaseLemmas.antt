@@ -5,7 +5,7 @@ use Rattle.rd_base.specs.declared.memory.Memory.{Memory}
 use Rattle.rv_step.specs.State.{State}
 use Rattle.rv_step.specs.Valid.{IsValid}
 use Rattle.case_reader.specs.Case.{CaseData}
-use Rattle.delegate.specs.Loading.{within_limit, case_or_refusal, start_or_refusal}
+use Rattle.delegate.specs.Loading.{within_limit, case_or_refusal, start_or_refusal, of_case}
 use Rattle.delegate.specs.OfCase.{root_of_start, start_response, response_by, StartsValid}
 use Rattle.delegate.specs.Outcome.{either_way}
 use Rattle.delegate.specs.Refusal.{too_long}
@@ -39,7 +39,7 @@ valid-of bytes d m read loaded valid c start reads starts =
     subst IsValid same valid
 
 started : (bytes : List ℕ) (c : CaseData) (start : State) → case_or_refusal bytes ≡ Ok c → start_or_refusal Whole c ≡ Ok start → start_response bytes ≡ Ok (root_of_start start)
-unfolding start_response
+unfolding of_case
 started bytes c start reads starts = rw (reads, starts) refl
 
 within : (bytes : List ℕ) (c : CaseData) → length bytes ≤ 16777216 → (within_limit bytes >>= case_or_refusal) ≡ Ok c → case_or_refusal bytes ≡ Ok c

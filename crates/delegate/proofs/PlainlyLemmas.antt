@@ -1,6 +1,6 @@
 -- The sentence in short of plain words, from that of all arguments.
-use Rattle.std.proofs.Common.{◌≡◌, ℕ, List, [], ◌∷◌, codes, Option, Some, sym, ap, subst, ◌∙◌}
-use Rattle.std.specs.Prelude.{Contains, All, zip}
+use Rattle.std.proofs.Common.{◌≡◌, ℕ, List, [], ◌∷◌, codes, Option, Some, sym, ap, ◌∙◌}
+use Rattle.std.specs.Prelude.{zip}
 use Rattle.std.proofs.lemmas.List.Elements.{All-weaker}
 use Rattle.rv_step.specs.State.{State}
 use Rattle.case_reader.specs.Case.{CaseData}
@@ -9,9 +9,9 @@ use Rattle.case_reader.specs.declared.case.Format.TheVariants.{Flat, Elf, Asm}
 use Rattle.image_reader.specs.Image.{Image}
 use Rattle.digest_core.specs.declared.name.DigestName.{DigestName}
 use Rattle.command_line.specs.Words.{chosen}
-use Rattle.command_line.specs.Options.{Given, ArePlain, words_of, text_asked, digest_asked, judge_of}
+use Rattle.command_line.specs.Options.{Given, ArePlain, words_of, text_asked, judge_of}
 use Rattle.command_line.specs.declared.request.Command.TheVariants.{Judge, Run}
-use Rattle.delegate.specs.InShort.{IsBinaryImageOf, IsImageOf, IsStartOf, AreTasksOf, TaskEnds, TasksEnd, Sentence, AskForTheMatch, AskForTheRun, SaysInShort, IsWrittenOf}
+use Rattle.delegate.specs.InShort.{IsBinaryImageOf, IsImageOf, IsStartOf, AreTasksOf, TaskEnds, TasksEnd, AskForTheMatch, AskForTheRun, SaysInShort, IsWrittenOf}
 use Rattle.delegate.specs.Plainly.{AreWordsOfJudge, AreWordsOfRun, SaysPlainly}
 use Rattle.delegate.specs.InShortLaw.{InShortSaysPlainly}
 use Rattle.delegate.specs.Writing.{ForItsBytes}
@@ -35,7 +35,7 @@ tasks-as bytes cs are = record {
       (λ c loads. (loads.0, start-as c loads.0 loads.1)) cs are.load;
 }
 
-end-as : (name : DigestName) (cs : List CaseData) (text : List ℕ) → TasksEnd IsImageOf name cs text → TasksEnd IsBinaryImageOf name cs text
+end-as : (name : DigestName) (cs : List CaseData) (text : List ℕ) → TasksEnd (TaskEnds IsImageOf name) cs text → TasksEnd (TaskEnds IsBinaryImageOf name) cs text
 end-as name cs text end = record {
   parts = end.parts;
   count = end.count;

@@ -1,10 +1,10 @@
 -- What holds of each response that a command can come to holds of every outcome.
-use Rattle.std.proofs.Common.{◌≡◌, ℕ, ◌+◌, List, [], ◌∷◌, length, Result, Ok, Err, Bool, true, false, cond, nat_lt, refl, ap}
+use Rattle.std.proofs.Common.{◌≡◌, ℕ, List, [], ◌∷◌, length, Result, Ok, Err, Bool, true, false, cond, nat_lt, refl, ap}
 use Rattle.rd_base.specs.Results.{◌>>=◌}
 use Rattle.rv_step.specs.State.{State}
 use Rattle.rv_step.specs.Loaded.{started}
 use Rattle.case_reader.specs.Case.{CaseData, case_at}
-use Rattle.case_reader.specs.Tasks.{TasksData, One, Many, tasks_at}
+use Rattle.case_reader.specs.Tasks.{TasksData, tasks_at}
 use Rattle.case_reader.specs.declared.fault.TaskFault.{TaskFault}
 use Rattle.case_reader.specs.declared.fault.CaseFault.{CaseFault}
 use Rattle.case_reader.specs.declared.fault.CaseFault.TheVariants.{OutOfRange}
@@ -32,20 +32,21 @@ use Rattle.command_line.specs.declared.request.Command.{Command}
 use Rattle.command_line.specs.declared.request.Command.TheVariants.{Judge, Run, Roots, Listing, Big, Audit as AuditOf}
 use Rattle.delegate.specs.Refusal.{too_long, case_refusal, task_refusal, image_refusal, asm_refusal, or_refusal}
 use Rattle.digest_core.specs.Name.{digest_of}
-use Rattle.delegate.specs.Decided.{Deciding, response_to_case, together, responses_to_cases}
-use Rattle.delegate.specs.Loading.{within_limit, case_or_refusal, image_by, start_or_refusal, starts_or_refusal}
+use Rattle.delegate.specs.Decided.{Deciding, together, responses_to_cases}
+use Rattle.delegate.specs.Loading.{within_limit, case_or_refusal, image_by, LoadedData, next_subject, start_or_refusal, cases_of_tasks, first_subject, loads_or_refusal, of_case, every_case}
 use Rattle.delegate.specs.commands.Judge.{judging, response_to_tasks, judge_response}
-use Rattle.delegate.specs.OfCase.{start_response, response_by, may_ask, answer_of_run, answer_response, has_steps, roots_of_steps, roots_at_response}
+use Rattle.delegate.specs.OfCase.{root_of_start, start_response, response_by, may_ask, or_usage, answer_response, has_steps, roots_of_steps, roots_at_response}
+use Rattle.delegate.specs.OfCase as questions
 use Rattle.bisect_game.specs.declared.settled.Kind.{Kind}
 use Rattle.delegate.specs.Refusal.{usage}
-use Rattle.delegate.specs.commands.Run.{run_response}
-use Rattle.delegate.specs.commands.Roots.{roots_of_run, roots_response}
+use Rattle.delegate.specs.commands.Run.{answer_of_run, run_response}
+use Rattle.delegate.specs.commands.Roots.{within_bound, roots_of_run, roots_response}
 use Rattle.delegate.specs.commands.Audit.{text_refusal, ruling_of_text, response_to_finding, audit_response}
 use Rattle.delegate.specs.commands.List.{words_in_file, words_by, list_response}
 use Rattle.delegate.specs.commands.Big.{summing_up, big_response}
 use Rattle.delegate.specs.Outcome.{bytes_for, carried_out, either_way}
 use Rattle.delegate.specs.declared.response.Subject.{Subject}
-use Rattle.delegate.specs.declared.response.Subject.TheVariants.{Whole, Task}
+use Rattle.delegate.specs.declared.response.Subject.TheVariants.{Whole}
 use Rattle.delegate.specs.declared.response.Response.{Response}
 use Rattle.delegate.specs.declared.response.Answered.TheVariants.{Done}
 
@@ -62,16 +63,15 @@ pub record OfCases (P : Response → Type 0) : Type 0 where
   pub text : (subject : Subject) (text : List ℕ) (fault : AsmImageFault) → asm_at text ≡ Err fault → P (asm_refusal subject fault)
   pub done : (text : List ℕ) → P (record { answered = Done; text = text })
 
--- P of a match that is decided
+-- P of matches that are decided
 abbrev pub OfMatches : (Response → Type 0) → Deciding → Type 0
-OfMatches P m = (c : CaseData) (start : State) → P (response_to_case m c start)
+OfMatches P m = (subject : Subject) (loads : List LoadedData) → P (together subject (responses_to_cases m loads))
 
 -- P of what is written of one case or of tasks, and of what they are refused for
 pub record OfTasks (P : Response → Type 0) (m : Deciding) : Type 0 where
   pub of_cases : OfCases P
   pub untold : (bytes : List ℕ) (fault : TaskFault) → tasks_at bytes ≡ Err fault → P (task_refusal fault)
-  pub one : OfMatches P m
-  pub many : (cs : List CaseData) (starts : List State) → P (together (responses_to_cases m cs starts))
+  pub decided : OfMatches P m
 
 -- P of what is found of a text
 pub record OfTexts (P : Response → Type 0) : Type 0 where
@@ -136,12 +136,13 @@ start-fit P of subject c =
     fit-both P (image_by subject c.format c.image) (λ image. Ok (started c.version image.memory image.entry c.input)) (image-fit P of subject c.format c.image)
     (λ image. ok-fit P (started c.version image.memory image.entry c.input))
 
-starts-fit : (P : Response → Type 0) → OfCases P → (t : ℕ) (cs : List CaseData) → IsFit P (starts_or_refusal t cs)
-unfolding starts_or_refusal
-starts-fit P of t [] = tt
-starts-fit P of t (c ∷ cs) =
-    fit-both P (start_or_refusal (Task t) c) (λ start. starts_or_refusal (t + 1) cs >>= (λ starts. Ok (start ∷ starts))) (start-fit P of (Task t) c)
-    (λ start. fit-both P (starts_or_refusal (t + 1) cs) (λ starts. Ok (start ∷ starts)) (starts-fit P of (t + 1) cs) (λ starts. ok-fit P (start ∷ starts)))
+loads-fit : (P : Response → Type 0) → OfCases P → (subject : Subject) (cs : List CaseData) → IsFit P (loads_or_refusal subject cs)
+unfolding loads_or_refusal
+loads-fit P of subject [] = tt
+loads-fit P of subject (c ∷ cs) =
+    fit-both P (start_or_refusal subject c) (λ start. loads_or_refusal (next_subject subject) cs >>= (λ loads. Ok (record { case = c; start = start } ∷ loads))) (start-fit P of subject c)
+    (λ start. fit-both P (loads_or_refusal (next_subject subject) cs) (λ loads. Ok (record { case = c; start = start } ∷ loads)) (loads-fit P of (next_subject subject) cs)
+    (λ loads. ok-fit P (record { case = c; start = start } ∷ loads)))
 
 -- a text whose words aren't loaded has no image, for the same fault
 
@@ -158,21 +159,21 @@ words-fit P of Flat file = fit-both P (image_by Whole Flat file) (λ image. Ok (
 words-fit P of Elf file = of.ranged key.Format
 words-fit P of Asm text = by (asm_words text) (asm-stops text) (asm-goes_on text)
   where
-    tested : (words : List ℕ) (r : Result Image AsmImageFault) → asm_at text ≡ r → IsFit P (or_refusal (asm_refusal Whole) (r >>= (λ image. Ok words)))
-    tested words (Ok image) is = tt
-    tested words (Err fault) is = of.text Whole text fault is
+    loaded : (words : List ℕ) (r : Result Image AsmImageFault) → asm_at text ≡ r → IsFit P (or_refusal (asm_refusal Whole) (r >>= (λ image. Ok words)))
+    loaded words (Ok image) is = tt
+    loaded words (Err fault) is = of.text Whole text fault is
 
     by : (r : Result (List ℕ) AsmImageFault) → ((fault : AsmImageFault) → r ≡ Err fault → asm_at text ≡ Err fault) → ((words : List ℕ) → r ≡ Ok words → asm_at text ≡ words_at words)
         → IsFit P (or_refusal (asm_refusal Whole) (r >>= (λ words. words_at words >>= (λ image. Ok words))))
-    by (Ok words) stops goes = tested words (words_at words) (goes words refl)
+    by (Ok words) stops goes = loaded words (words_at words) (goes words refl)
     by (Err fault) stops goes = of.text Whole text fault (stops fault refl)
 
 -- the commands
 
 judged-of : (P : Response → Type 0) (m : Deciding) → OfTasks P m → (tasks : TasksData) → Of P (response_to_tasks m tasks)
 unfolding response_to_tasks
-judged-of P m of (One c) = fit-then P (start_or_refusal Whole c) _ (start-fit P of.of_cases Whole c) (λ start. of.one c start)
-judged-of P m of (Many cs) = fit-then P (starts_or_refusal 1 cs) _ (starts-fit P of.of_cases 1 cs) (λ starts. of.many cs starts)
+judged-of P m of tasks =
+    fit-then P (loads_or_refusal (first_subject tasks) (cases_of_tasks tasks)) _ (loads-fit P of.of_cases (first_subject tasks) (cases_of_tasks tasks)) (λ loads. of.decided (first_subject tasks) loads)
 
 judge-of : (P : Response → Type 0) (text : MatchText) (name : DigestName) → OfTasks P (judging text name) → (bytes : List ℕ) → Of P (judge_response text name bytes)
 unfolding judge_response
@@ -182,33 +183,44 @@ judge-of P text name of bytes = by (tasks_at bytes) refl
     by (Ok tasks) is = judged-of P (judging text name) of tasks
     by (Err fault) is = of.untold bytes fault is
 
+case-of : (P : Response → Type 0) → OfCases P → (test : CaseData → Result (Unit {0}) Response) (answer : CaseData → State → Response) → ((c : CaseData) → IsFit P (test c))
+    → ((c : CaseData) (start : State) → P (answer c start)) → (bytes : List ℕ) → Of P (of_case test answer bytes)
+unfolding of_case
+case-of P of test answer fit answers bytes =
+    case-then P of bytes _ (λ c. fit-then P (test c) _ (fit c) (λ passed. fit-then P (start_or_refusal Whole c) _ (start-fit P of Whole c) (λ start. answers c start)))
+
+-- a test, and a limit, that refuse so
+
+abbrev tested : Response → Bool → Result (Unit {0}) Response
+tested refusal passed = cond passed (Ok tt) (Err refusal)
+
+abbrev limited : Response → Bool → Result (Unit {0}) Response
+limited refusal many = cond many (Err refusal) (Ok tt)
+
+test-fit : (P : Response → Type 0) (refusal : Response) → P refusal → (passed : Bool) → IsFit P (tested refusal passed)
+test-fit P refusal refused true = tt
+test-fit P refusal refused false = refused
+
+limit-fit : (P : Response → Type 0) (refusal : Response) → P refusal → (many : Bool) → IsFit P (limited refusal many)
+limit-fit P refusal refused true = refused
+limit-fit P refusal refused false = tt
+
 ran-of : (P : Response → Type 0) → OfCases P → (bytes : List ℕ) → Of P (run_response bytes)
-unfolding run_response
-ran-of P of bytes = case-then P of bytes _ (λ c. fit-then P (start_or_refusal Whole c) _ (start-fit P of Whole c) (λ start. of.done _))
+ran-of P of bytes = case-of P of every_case answer_of_run (λ c. tt) (λ c start. of.done (answer_of_run c start).text) bytes
 
 pub start-of : (P : Response → Type 0) → OfCases P → (bytes : List ℕ) → Of P (start_response bytes)
-unfolding start_response
-start-of P of bytes = case-then P of bytes _ (λ c. fit-then P (start_or_refusal Whole c) _ (start-fit P of Whole c) (λ start. of.done _))
-
--- a question as a test
-abbrev asked-as : Bool → Result (Unit {0}) Response
-asked-as may = cond may (Ok tt) (Err usage)
+start-of P of bytes = case-of P of every_case (λ c start. root_of_start start) (λ c. tt) (λ c start. of.done (root_of_start start).text) bytes
 
 pub answer-of : (P : Response → Type 0) → OfCases P → P usage → (k : Kind) (bytes : List ℕ) → Of P (answer_response k bytes)
-unfolding answer_response
-answer-of P of unasked k bytes = case-then P of bytes _ (λ c. by c (may_ask c.bound k))
-  where
-    by : (c : CaseData) (asked : Bool) → Of P (asked-as asked >>= (λ done. start_or_refusal Whole c >>= (λ start. Ok (answer_of_run k c start))))
-    by c true = fit-then P (start_or_refusal Whole c) (λ start. Ok (answer_of_run k c start)) (start-fit P of Whole c) (λ start. of.done (answer_of_run k c start).text)
-    by c false = unasked
+answer-of P of unasked k bytes = case-of P of (λ c. or_usage (may_ask c.bound k)) (questions.answer_of_run k) (λ c. test-fit P usage unasked (may_ask c.bound k)) (λ c start. of.done (questions.answer_of_run k c start).text) bytes
 
 pub roots-of : (P : Response → Type 0) → OfCases P → P usage → (steps bytes : List ℕ) → Of P (roots_at_response steps bytes)
-unfolding roots_at_response
-roots-of P of none steps bytes = case-then P of bytes _ (λ c. by c (has_steps c.bound steps))
-  where
-    by : (c : CaseData) (there : Bool) → Of P (asked-as there >>= (λ done. start_or_refusal Whole c >>= (λ start. Ok (roots_of_steps steps c start))))
-    by c true = fit-then P (start_or_refusal Whole c) (λ start. Ok (roots_of_steps steps c start)) (start-fit P of Whole c) (λ start. of.done (roots_of_steps steps c start).text)
-    by c false = none
+roots-of P of none steps bytes = case-of P of (λ c. or_usage (has_steps c.bound steps)) (roots_of_steps steps) (λ c. test-fit P usage none (has_steps c.bound steps)) (λ c start. of.done (roots_of_steps steps c start).text) bytes
+
+rooted-of : (P : Response → Type 0) → OfCases P → (bytes : List ℕ) → Of P (roots_response bytes)
+rooted-of P of bytes =
+    case-of P of within_bound (roots_of_run (digest_of Sha256)) (λ c. limit-fit P (case_refusal Whole (OutOfRange key.Bound)) (of.ranged key.Bound) (nat_lt 4096 c.bound))
+    (λ c start. of.done (roots_of_run (digest_of Sha256) c start).text) bytes
 
 -- what is answered to bytes that are not too many, to all
 pub response-of : (P : Response → Type 0) → P too_long → (answer : List ℕ → Result Response Response) → ((bytes : List ℕ) → Of P (answer bytes)) → (bytes : List ℕ) → P (response_by answer bytes)
@@ -217,18 +229,6 @@ response-of P long answer of bytes = by (nat_lt 16777216 (length bytes))
     by : (many : Bool) → Of P (cond many (Err too_long) (Ok bytes) >>= answer)
     by true = long
     by false = of bytes
-
--- a limit as a test
-abbrev limit : Response → Bool → Result (Unit {0}) Response
-limit refusal many = cond many (Err refusal) (Ok tt)
-
-rooted-of : (P : Response → Type 0) → OfCases P → (bytes : List ℕ) → Of P (roots_response bytes)
-unfolding roots_response
-rooted-of P of bytes = case-then P of bytes _ (λ c. by c (nat_lt 4096 c.bound))
-  where
-    by : (c : CaseData) (many : Bool) → Of P (limit (case_refusal Whole (OutOfRange key.Bound)) many >>= (λ few. start_or_refusal Whole c >>= (λ start. Ok (roots_of_run (digest_of Sha256) c start))))
-    by c true = of.ranged key.Bound
-    by c false = fit-then P (start_or_refusal Whole c) _ (start-fit P of Whole c) (λ start. of.done _)
 
 listed-of : (P : Response → Type 0) → OfCases P → (bytes : List ℕ) → Of P (list_response bytes)
 unfolding list_response
@@ -243,13 +243,13 @@ checked-of P of bytes = by (read_text bytes) refl
     by (Err fault) is = of.unread bytes fault is
 
 -- the large workload loads
-big-fit : (P : Response → Type 0) (seed : ℕ) → IsFit P (start_or_refusal Whole (big_data seed))
-unfolding start_or_refusal big_data program flat_at
+big-fit : (P : Response → Type 0) (seed : ℕ) → IsFit P (loads_or_refusal Whole (big_data seed ∷ []))
+unfolding loads_or_refusal start_or_refusal big_data program flat_at
 big-fit P seed = tt
 
 summed_up-of : (P : Response → Type 0) (seed : ℕ) → OfMatches P (summing_up seed) → Of P (big_response seed)
-unfolding big_response
-summed_up-of P seed matches = fit-then P (start_or_refusal Whole (big_data seed)) _ (big-fit P seed) (λ start. matches (big_data seed) start)
+unfolding response_to_tasks
+summed_up-of P seed matches = fit-then P (loads_or_refusal Whole (big_data seed ∷ [])) _ (big-fit P seed) (λ loads. matches Whole loads)
 
 limit-then : (P : Response → Type 0) (bytes : List ℕ) (next : List ℕ → Result Response Response) → P too_long → ((given : List ℕ) → Of P (next given)) → Of P (within_limit bytes >>= next)
 limit-then P bytes next long further = by (nat_lt 16777216 (length bytes))

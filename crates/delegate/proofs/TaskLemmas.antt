@@ -1,33 +1,28 @@
--- Tasks: their gravest answer, their texts, and the states in which their runs start.
-use Rattle.std.proofs.Common.{◌≡◌, ℕ, zero, suc, ◌+◌, ◌-◌, ◌<◌, ◌≤◌, List, [], ◌∷◌, ◌++◌, All, map, length, slice_get, take, drop, Bool, Some, Result, Ok, Err, refl, sym, ap, ap₂, subst, ◌∙◌, arith, append_assoc}
-use Rattle.std.specs.Prelude.{slice_index_or}
-use Rattle.std.proofs.Math.Seq.{take-length}
+-- Tasks: their gravest answer, their texts, and how their cases are loaded.
+use Rattle.std.proofs.Common.{◌≡◌, ℕ, zero, suc, ◌-◌, List, [], ◌∷◌, ◌++◌, All, map, length, slice_get, Bool, Some, Result, Ok, Err, refl, sym, ap, ap₂, subst, ◌∙◌}
 use Rattle.std.proofs.lemmas.List.{append-nil, length-map}
-use Rattle.std.proofs.lemmas.List.Elements.{All-nil, All-cons, All-weaker}
+use Rattle.std.proofs.lemmas.List.Elements.{All-nil, All-cons, All-head, All-tail, All-weaker}
 use Rattle.std.proofs.lemmas.Option.{same_Some, none-some}
 use Rattle.rd_base.specs.Results.{◌>>=◌}
-use Rattle.bisect_game.specs.Rules.{ArePlayable}
-use Rattle.rv_step.specs.declared.machine.Machine.{Machine}
-use Rattle.rv_step.specs.State.{State, state_of, IsChained}
-use Rattle.case_reader.specs.declared.case.Case.{Case as CaseOf}
-use Rattle.case_reader.specs.Case.{CaseData, data_of}
-use Rattle.case_match.specs.TruthfulInCase.{IsInRange}
+use Rattle.rv_step.specs.State.{State}
+use Rattle.tournament.specs.declared.reading.Verdict.{Verdict}
+use Rattle.tournament.specs.declared.reading.Verdict.TheVariants as verdict
+use Rattle.case_reader.specs.Case.{CaseData}
 use Rattle.case_match.specs.declared.opening.LoadedCase.{LoadedCase}
-use Rattle.case_match.specs.declared.referee.Ended.{Ended}
-use Rattle.case_match.specs.Match.{rules_of_case, says_of_case, RecordsOfCasesAreSettledUp}
-use Rattle.case_match.specs.Openings.{ended_of_loaded}
-use Rattle.delegate.specs.Answered.{graver}
+use Rattle.case_match.specs.declared.opening.EndedCase.{EndedCase}
+use Rattle.case_match.specs.Match.{ended_case}
+use Rattle.case_match.specs.Openings.{IsFresh, ended_of_loaded}
 use Rattle.digest_core.specs.Name.{digest_of}
-use Rattle.delegate.specs.Decided.{Deciding, response_to_case, response_by, task_texts, gravest, together, responses_by, responses_to_cases, StandsUnder}
-use Rattle.delegate.specs.Standing.{IsFreshStart, responses, CanBePaid, AreAllInRange, AreAllPlayed, AreAllShown, EndsAreShown, IsPlayed, AreStarted, AddsStarts}
-use Rattle.delegate.specs.Loading.{start_or_refusal, starts_or_refusal}
+use Rattle.delegate.specs.Answered.{graver}
+use Rattle.delegate.specs.Decided.{WhichText, report, full, summary, Deciding, answered_for, response_to_case, texts_under, gravest, together, responses_to_cases, StandsUnder}
+use Rattle.delegate.specs.Standing.{IsReadyToPlay, loaded_data, responses, EndIsShown, IsPlayed}
+use Rattle.delegate.specs.Loading.{LoadedData, next_subject, start_or_refusal, loads_or_refusal}
 use Rattle.delegate.specs.declared.response.Subject.{Subject}
-use Rattle.delegate.specs.declared.response.Subject.TheVariants.{Task}
+use Rattle.delegate.specs.declared.response.Subject.TheVariants.{Whole, Task}
 use Rattle.delegate.specs.declared.response.Response.{Response}
-use Rattle.delegate.specs.declared.response.Stop.{Stop}
 use Rattle.delegate.specs.declared.response.Answered.{Answered}
 use Rattle.delegate.specs.declared.response.Answered.TheVariants.{Done, Usage, Case, Image, ReadFault, WriteFault, AuditRefused, Memory, NoneLeft, Collision, TooLong}
-use Rattle.delegate.proofs.OutcomeLemmas.{goes_on, stops}
+use Rattle.delegate.proofs.OutcomeLemmas.{goes_on}
 
 -- a test by which a collision, that nobody is left and that all is done come out alike comes out so for the gravest answer
 
@@ -58,214 +53,125 @@ pub gravest-is : (is : Answered → Bool) (x : Bool) → is Done ≡ x → is No
 gravest-is is x done none collision [] = done
 gravest-is is x done none collision (r ∷ rs) = graver-is is x none collision r.answered (gravest rs) (gravest-is is x done none collision rs)
 
--- the responses of endings are those to each task
+-- the response to one case is that to it alone
 
-pub same-responses : (digest : List ℕ → List ℕ) (m : Deciding) (ls : List LoadedCase) → responses m (map (λ (l : LoadedCase). data_of l.case.now) ls) (map (ended_of_loaded digest) ls)
-    ≡ responses_by digest m (map (λ (l : LoadedCase). data_of l.case.now) ls) (map state_of (map (λ (l : LoadedCase). l.start) ls))
-same-responses digest m [] = refl
-same-responses digest m (l ∷ ls) = ap (λ (rs : List Response). response_by digest m (data_of l.case.now) (state_of l.start) ∷ rs) (same-responses digest m ls)
+graver-done : (written : WhichText) (v : Verdict) → graver (answered_for written v) Done ≡ answered_for written v
+graver-done (summary seed) v = refl
+graver-done report (verdict.Accept n) = refl
+graver-done report verdict.NoneLeft = refl
+graver-done report (verdict.Collision x y) = refl
+graver-done full (verdict.Accept n) = refl
+graver-done full verdict.NoneLeft = refl
+graver-done full (verdict.Collision x y) = refl
 
--- a case that was read can be played, so each record may be paid
+pub one-together : (m : Deciding) (c : CaseData) (start : State) → together Whole (response_to_case m c start ∷ []) ≡ response_to_case m c start
+one-together m c start =
+    ap₂ (λ (a : Answered) (t : List ℕ). record { answered = a; text = t }) (graver-done m.written (ended_case (digest_of m.digest) c start).verdict) (append-nil (response_to_case m c start).text)
 
-playable : (digest : List ℕ → List ℕ) (c : CaseOf) (start : State) → ArePlayable (rules_of_case digest (data_of c) start)
-playable digest c start =
-    record { some = omega (arith, c.somebody_plays); parted = omega (arith, c.parted); few_parts = c.few_parts; steps = omega (arith, c.bound_is_positive) }
+-- the responses to cases that have ended so are those to each task, and what is shown of their ends is shown of them
 
-settled : RecordsOfCasesAreSettledUp → (digest : List ℕ → List ℕ) (ls : List LoadedCase) → CanBePaid (map (λ (l : LoadedCase). data_of l.case.now) ls) (map (ended_of_loaded digest) ls)
-settled law digest [] = tt
-settled law digest (l ∷ ls) =
-    (law (rules_of_case digest (data_of l.case.now) (state_of l.start)) (says_of_case digest (data_of l.case.now) (state_of l.start)) (playable digest l.case.now (state_of l.start)), settled law digest ls)
+same-responses : (m : Deciding) (ls : List LoadedCase) → responses m (map (ended_of_loaded (digest_of m.digest)) ls) ≡ responses_to_cases m (map loaded_data ls)
+same-responses m [] = refl
+same-responses m (l ∷ ls) = ap (λ (rs : List Response). response_to_case m (loaded_data l).case (loaded_data l).start ∷ rs) (same-responses m ls)
 
-pub all-settled : RecordsOfCasesAreSettledUp → (digest : List ℕ → List ℕ) (ls : List LoadedCase) (cs : List CaseData) (own_ends ends : List Ended) → map (λ (l : LoadedCase). data_of l.case.now) ls ≡ cs
-    → own_ends ≡ map (ended_of_loaded digest) ls → ends ≡ own_ends → CanBePaid cs ends
-all-settled law digest ls cs own_ends ends cases_are own_are ends_are =
-    subst (λ (ds : List CaseData). CanBePaid ds ends) cases_are
-    (subst (CanBePaid (map (λ (l : LoadedCase). data_of l.case.now) ls)) (sym (ends_are ∙ own_are)) (settled law digest ls))
+pub told-together : (m : Deciding) (subject : Subject) (ls : List LoadedCase) (own_ends ends : List EndedCase) (answered : Answered) (before out text : List ℕ)
+    → own_ends ≡ map (ended_of_loaded (digest_of m.digest)) ls → ends ≡ own_ends → before ≡ []
+    → out ≡ before ++ texts_under subject (map (λ (r : Response). r.text) (responses m ends)) → answered ≡ gravest (responses m ends) → text ≡ out
+    → record { answered = answered; text = text } ≡ together subject (responses_to_cases m (map loaded_data ls))
+told-together m subject ls own_ends ends answered before out text own_are ends_are none written gravest_is text_is =
+    let all : responses m ends ≡ responses_to_cases m (map loaded_data ls) = ap (responses m) (ends_are ∙ own_are) ∙ same-responses m ls in
+    ap₂ (λ (a : Answered) (t : List ℕ). record { answered = a; text = t }) (gravest_is ∙ ap gravest all)
+    (text_is
+    ∙ (written
+    ∙ (ap (λ (l : List ℕ). l ++ texts_under subject (map (λ (r : Response). r.text) (responses m ends))) none
+    ∙ ap (λ (rs : List Response). texts_under subject (map (λ (r : Response). r.text) rs)) all)))
 
--- machines that are fresh
+pub all-fresh : (digest : List ℕ → List ℕ) (ls : List LoadedCase) → All IsReadyToPlay ls → All (λ (l : LoadedCase). IsFresh digest l.start) ls
+all-fresh digest ls ready = All-weaker IsReadyToPlay (λ (l : LoadedCase). IsFresh digest l.start) (λ l is. is.fresh digest) ls ready
 
-pub all-silent : (ms : List Machine) → All IsFreshStart ms → All (λ (m : Machine). m.output.items ≡ []) ms
-all-silent ms fresh = All-weaker IsFreshStart (λ (m : Machine). m.output.items ≡ []) (λ m is. (is (λ bytes. bytes)).silent) ms fresh
-
-pub all-chained : (digest : List ℕ → List ℕ) (ms : List Machine) → All IsFreshStart ms → All (IsChained digest) ms
-all-chained digest ms fresh = All-weaker IsFreshStart (IsChained digest) (λ m is. (is digest).chained) ms fresh
-
--- the text of a task stands under its line
-
-told-at : (digest : List ℕ → List ℕ) (m : Deciding) (cs : List CaseData) (starts : List State) (i : ℕ) (c : CaseData) (start : State)
-    → slice_get cs i ≡ Some c → slice_get starts i ≡ Some start → slice_get (responses_by digest m cs starts) i ≡ Some (response_by digest m c start)
-told-at digest m [] starts i c start at from = absurd (none-some c at)
-told-at digest m (d ∷ cs) [] i c start at from = absurd (none-some start from)
-told-at digest m (d ∷ cs) (s ∷ starts) zero c start at from =
-    ap (λ (x : CaseData). Some (response_by digest m x s)) (same_Some d c at) ∙ ap (λ (x : State). Some (response_by digest m c x)) (same_Some s start from)
-told-at digest m (d ∷ cs) (s ∷ starts) (suc i) c start at from = told-at digest m cs starts i c start at from
-
--- what is shown of the ends of tasks is shown of their cases, each by itself
-
-shown-of : (digest : List ℕ → List ℕ) (m : Deciding) (ls : List LoadedCase) → EndsAreShown m (map (λ (l : LoadedCase). data_of l.case.now) ls) (map (ended_of_loaded digest) ls)
-    → AreAllShown digest m (map (λ (l : LoadedCase). data_of l.case.now) ls) (map state_of (map (λ (l : LoadedCase). l.start) ls))
-shown-of digest m [] shown = tt
-shown-of digest m (l ∷ ls) shown = (shown.0, shown-of digest m ls shown.1)
-
-pub all-shown : (digest : List ℕ → List ℕ) (m : Deciding) (ls : List LoadedCase) (cs : List CaseData) (starts : List Machine) (own_ends ends : List Ended) → map (λ (l : LoadedCase). data_of l.case.now) ls ≡ cs
-    → map (λ (l : LoadedCase). l.start) ls ≡ starts → own_ends ≡ map (ended_of_loaded digest) ls → ends ≡ own_ends → EndsAreShown m cs ends → AreAllShown digest m cs (map state_of starts)
-all-shown digest m ls cs starts own_ends ends cases_are starts_are own_are ends_are shown =
-    subst (λ (ds : List CaseData). AreAllShown digest m ds (map state_of starts)) cases_are
-    (subst (λ (ms : List Machine). AreAllShown digest m (map (λ (l : LoadedCase). data_of l.case.now) ls) (map state_of ms)) starts_are
-    (shown-of digest m ls
-    (subst (EndsAreShown m (map (λ (l : LoadedCase). data_of l.case.now) ls)) (ends_are ∙ own_are)
-    (subst (λ (ds : List CaseData). EndsAreShown m ds ends) (sym cases_are) shown))))
-
-pub played-of : (m : Deciding) (cs : List CaseData) (starts : List State) → AreAllInRange cs starts → AreAllShown (digest_of m.digest) m cs starts → AreAllPlayed m cs starts
-played-of m [] starts ranges shown = tt
-played-of m (c ∷ cs) [] ranges shown = tt
-played-of m (c ∷ cs) (s ∷ starts) ranges shown = (record { range = ranges.0; strings = shown.0.strings; written = shown.0.written }, played-of m cs starts ranges.1 shown.1)
-
-pub played-at : (m : Deciding) (cs : List CaseData) (starts : List State) (i : ℕ) (c : CaseData) (start : State) → AreAllPlayed m cs starts
-    → slice_get cs i ≡ Some c → slice_get starts i ≡ Some start → IsPlayed m c start
-played-at m [] starts i c start all at from = absurd (none-some c at)
-played-at m (d ∷ cs) [] i c start all at from = absurd (none-some start from)
-played-at m (d ∷ cs) (s ∷ starts) zero c start all at from =
-    subst (λ (y : State). IsPlayed m c y) (same_Some s start from) (subst (λ (x : CaseData). IsPlayed m x s) (same_Some d c at) all.0)
-played-at m (d ∷ cs) (s ∷ starts) (suc i) c start all at from = played-at m cs starts i c start all.1 at from
-
--- the machines of tasks, each by itself
-
-pub record Starts (starts : List State) (i : ℕ) (c : CaseData) : Type 0 where
-  pub start : State
-  pub there : slice_get starts i ≡ Some start
-  pub subject : Subject
-  pub loads : start_or_refusal subject c ≡ Ok start
-
-pub record FirstStarts (number : ℕ) (c : CaseData) (cs : List CaseData) (starts : List State) : Type 0 where
-  pub first : State
-  pub later : List State
-  pub loads : start_or_refusal (Task number) c ≡ Ok first
-  pub starts_later : starts_or_refusal (number + 1) cs ≡ Ok later
-  pub are : starts ≡ first ∷ later
-
-pub first-starts : (number : ℕ) (c : CaseData) (cs : List CaseData) (starts : List State) → starts_or_refusal number (c ∷ cs) ≡ Ok starts → FirstStarts number c cs starts
-unfolding starts_or_refusal
-first-starts number c cs starts is = by (start_or_refusal (Task number) c) (starts_or_refusal (number + 1) cs) refl refl is
+pub all-played : (m : Deciding) (ls : List LoadedCase) (own_ends ends : List EndedCase) → own_ends ≡ map (ended_of_loaded (digest_of m.digest)) ls → ends ≡ own_ends → All IsReadyToPlay ls
+    → All (λ (e : EndedCase). EndIsShown m e.end) ends → All (IsPlayed m) (map loaded_data ls)
+all-played m ls own_ends ends own_are ends_are ready shown = by ls ready (subst (All (λ (e : EndedCase). EndIsShown m e.end)) (ends_are ∙ own_are) shown)
   where
-    by : (r : Result State Response) (q : Result (List State) Response) → start_or_refusal (Task number) c ≡ r → starts_or_refusal (number + 1) cs ≡ q
-        → (r >>= (λ (s : State). q >>= (λ (ss : List State). Ok (s ∷ ss)))) ≡ Ok starts → FirstStarts number c cs starts
-    by (Ok s) (Ok ss) one more both = record { first = s; later = ss; loads = one; starts_later = more; are = sym (cc both) }
+    by : (ks : List LoadedCase) → All IsReadyToPlay ks → All (λ (e : EndedCase). EndIsShown m e.end) (map (ended_of_loaded (digest_of m.digest)) ks) → All (IsPlayed m) (map loaded_data ks)
+    by [] are ends = All-nil (IsPlayed m)
+    by (k ∷ ks) are ends =
+        let own : IsReadyToPlay k = All-head IsReadyToPlay k ks are in
+        let end : EndIsShown m (ended_case (digest_of m.digest) (loaded_data k).case (loaded_data k).start) =
+        All-head (λ (e : EndedCase). EndIsShown m e.end) (ended_of_loaded (digest_of m.digest) k) (map (ended_of_loaded (digest_of m.digest)) ks) ends in
+        All-cons (IsPlayed m) (loaded_data k) (map loaded_data ks) (record { range = own.range; shown = end })
+        (by ks (All-tail IsReadyToPlay k ks are)
+        (All-tail (λ (e : EndedCase). EndIsShown m e.end) (ended_of_loaded (digest_of m.digest) k) (map (ended_of_loaded (digest_of m.digest)) ks) ends))
+
+-- how cases are loaded
+
+pub one-loaded : (c : CaseData) (start : State) → start_or_refusal Whole c ≡ Ok start → loads_or_refusal Whole (c ∷ []) ≡ Ok (record { case = c; start = start } ∷ [])
+unfolding loads_or_refusal
+one-loaded c start loads = goes_on _ _ _ loads
+
+pub record FirstLoads (subject : Subject) (c : CaseData) (cs : List CaseData) (ls : List LoadedData) : Type 0 where
+  pub first : State
+  pub later : List LoadedData
+  pub loads : start_or_refusal subject c ≡ Ok first
+  pub loads_later : loads_or_refusal (next_subject subject) cs ≡ Ok later
+  pub are : ls ≡ record { case = c; start = first } ∷ later
+
+pub first-loads : (subject : Subject) (c : CaseData) (cs : List CaseData) (ls : List LoadedData) → loads_or_refusal subject (c ∷ cs) ≡ Ok ls → FirstLoads subject c cs ls
+unfolding loads_or_refusal
+first-loads subject c cs ls is = by (start_or_refusal subject c) (loads_or_refusal (next_subject subject) cs) refl refl is
+  where
+    by : (r : Result State Response) (q : Result (List LoadedData) Response) → start_or_refusal subject c ≡ r → loads_or_refusal (next_subject subject) cs ≡ q
+        → (r >>= (λ (s : State). q >>= (λ (later : List LoadedData). Ok (record { case = c; start = s } ∷ later)))) ≡ Ok ls → FirstLoads subject c cs ls
+    by (Ok s) (Ok later) one more both = record { first = s; later = later; loads = one; loads_later = more; are = sym (cc both) }
     by (Ok s) (Err e) one more both = absurd (cc both)
     by (Err e) q one more both = absurd (cc both)
 
-pub start-at : (number : ℕ) (cs : List CaseData) (starts : List State) (i : ℕ) (c : CaseData) → starts_or_refusal number cs ≡ Ok starts → slice_get cs i ≡ Some c → Starts starts i c
-start-at number [] starts i c is at = absurd (none-some c at)
-start-at number (d ∷ cs) starts zero c is at =
-    let all = first-starts number d cs starts is in
-    record { start = all.first; there = ap (λ (l : List State). slice_get l 0) all.are; subject = Task number; loads = subst (λ (x : CaseData). start_or_refusal (Task number) x ≡ Ok all.first) (same_Some d c at) all.loads }
-start-at number (d ∷ cs) starts (suc i) c is at =
-    let all = first-starts number d cs starts is in
-    let more = start-at (number + 1) cs all.later i c all.starts_later at in
-    record { start = more.start; there = ap (λ (l : List State). slice_get l (suc i)) all.are ∙ more.there; subject = more.subject; loads = more.loads }
-
 -- there is one for each
+pub loads-count : (subject : Subject) (cs : List CaseData) (ls : List LoadedData) → loads_or_refusal subject cs ≡ Ok ls → length ls ≡ length cs
+unfolding loads_or_refusal
+loads-count subject [] ls is = (let none : [] ≡ ls = cc is in ap length (sym none))
+loads-count subject (c ∷ cs) ls is =
+    let all = first-loads subject c cs ls is in
+    ap length all.are ∙ ap suc (loads-count (next_subject subject) cs all.later all.loads_later)
 
-pub starts-count : (number : ℕ) (cs : List CaseData) (starts : List State) → starts_or_refusal number cs ≡ Ok starts → length starts ≡ length cs
-unfolding starts_or_refusal
-starts-count number [] starts is = (let none : [] ≡ starts = cc is in ap length (sym none))
-starts-count number (c ∷ cs) starts is =
-    let all = first-starts number c cs starts is in
-    ap length all.are ∙ ap suc (starts-count (number + 1) cs all.later all.starts_later)
+-- each case, by itself
 
-pub told-count : (digest : List ℕ → List ℕ) (m : Deciding) (cs : List CaseData) (starts : List State) → length starts ≡ length cs → length (responses_by digest m cs starts) ≡ length cs
-told-count digest m [] [] same = refl
-told-count digest m [] (s ∷ starts) same = absurd (omega (arith, same))
-told-count digest m (c ∷ cs) [] same = absurd (omega (arith, same))
-told-count digest m (c ∷ cs) (s ∷ starts) same = ap suc (told-count digest m cs starts (omega (arith, same)))
+pub record IsLoad (l : LoadedData) : Type 0 where
+  pub subject : Subject
+  pub loads : start_or_refusal subject l.case ≡ Ok l.start
 
--- their texts
+pub each-loads : (subject : Subject) (cs : List CaseData) (ls : List LoadedData) → loads_or_refusal subject cs ≡ Ok ls → All IsLoad ls
+unfolding loads_or_refusal
+each-loads subject [] ls is = (let none : [] ≡ ls = cc is in subst (All IsLoad) none (All-nil IsLoad))
+each-loads subject (c ∷ cs) ls is =
+    let all = first-loads subject c cs ls is in
+    subst (All IsLoad) (sym all.are)
+    (All-cons IsLoad (record { case = c; start = all.first }) all.later (record { subject = subject; loads = all.loads }) (each-loads (next_subject subject) cs all.later all.loads_later))
+
+pub all-at : {X : Type 0} (P : X → Type 0) (xs : List X) (i : ℕ) (x : X) → All P xs → slice_get xs i ≡ Some x → P x
+all-at P [] i x all at = absurd (none-some x at)
+all-at P (y ∷ xs) zero x all at = subst P (same_Some y x at) (All-head P y xs all)
+all-at P (y ∷ xs) (suc i) x all at = all-at P xs i x (All-tail P y xs all) at
+
+-- the texts of tasks: there is one for each, and that of a task stands under its line
 
 abbrev pub texts_in : List Response → List (List ℕ)
 texts_in rs = map (λ (r : Response). r.text) rs
 
-text-at : (rs : List Response) (i : ℕ) (r : Response) → slice_get rs i ≡ Some r → slice_get (texts_in rs) i ≡ Some r.text
-text-at [] i r at = absurd (none-some r at)
-text-at (q ∷ rs) zero r at = ap (λ (x : Response). Some x.text) (same_Some q r at)
-text-at (q ∷ rs) (suc i) r at = text-at rs i r at
+pub texts-count : (m : Deciding) (ls : List LoadedData) → length (texts_in (responses_to_cases m ls)) ≡ length ls
+texts-count m ls = length-map (responses_to_cases m ls) (λ (r : Response). r.text) ∙ length-map ls (λ (l : LoadedData). response_to_case m l.case l.start)
 
--- so a text of tasks has a part for each, and that of a task stands under its line
-pub decided-stands : (m : Deciding) (cs : List CaseData) (starts : List State) (t : ℕ) (c : CaseData) (start : State) → starts_or_refusal 1 cs ≡ Ok starts
-    → slice_get cs (t - 1) ≡ Some c → slice_get starts (t - 1) ≡ Some start → StandsUnder (length cs) t (response_to_case m c start).text (together (responses_to_cases m cs starts)).text
-decided-stands m cs starts t c start loads at from = record {
-  parts = texts_in (responses_to_cases m cs starts);
-  all = length-map (responses_to_cases m cs starts) (λ (r : Response). r.text) ∙ told-count (digest_of m.digest) m cs starts (starts-count 1 cs starts loads);
+mapped-at : {A B : Type 0} (f : A → B) (xs : List A) (i : ℕ) (x : A) → slice_get xs i ≡ Some x → slice_get (map f xs) i ≡ Some (f x)
+mapped-at f [] i x at = absurd (none-some x at)
+mapped-at f (y ∷ xs) zero x at = ap (λ z. Some (f z)) (same_Some y x at)
+mapped-at f (y ∷ xs) (suc i) x at = mapped-at f xs i x at
+
+pub decided-stands : (m : Deciding) (ls : List LoadedData) (t : ℕ) (l : LoadedData) → slice_get ls (t - 1) ≡ Some l
+    → StandsUnder (length ls) t (response_to_case m l.case l.start).text (together (Task 1) (responses_to_cases m ls)).text
+decided-stands m ls t l at = record {
+  parts = texts_in (responses_to_cases m ls);
+  all = texts-count m ls;
   whole = refl;
-  here = text-at (responses_to_cases m cs starts) (t - 1) (response_to_case m c start) (told-at (digest_of m.digest) m cs starts (t - 1) c start at from);
+  here = mapped-at (λ (r : Response). r.text) (responses_to_cases m ls) (t - 1) (response_to_case m l.case l.start)
+      (mapped-at (λ (k : LoadedData). response_to_case m k.case k.start) ls (t - 1) l at);
 }
-
--- the machines of tasks, one after another
-
-pub none-started : (number : ℕ) (before : List Machine) → AreStarted number [] before before
-unfolding starts_or_refusal
-none-started number before =
-    record { added = []; are = sym (append-nil before); starts = refl; count = refl; fresh = All-nil IsFreshStart; in_range = tt }
-
-pub more-started : (number : ℕ) (c : CaseData) (cs : List CaseData) (start : Machine) (before middle now : List Machine) → start_or_refusal (Task number) c ≡ Ok (state_of start)
-    → IsFreshStart start → IsInRange c (state_of start) → middle ≡ before ++ start ∷ []
-    → AreStarted (number + 1) cs middle now → AreStarted number (c ∷ cs) before now
-unfolding starts_or_refusal
-more-started number c cs start before middle now loads fresh range pushed later = record {
-  added = start ∷ later.added;
-  are = later.are ∙ (ap (λ (l : List Machine). l ++ later.added) pushed ∙ append_assoc before (start ∷ []) later.added);
-  starts = goes_on _ _ _ loads ∙ goes_on _ _ _ later.starts;
-  count = ap suc later.count;
-  fresh = All-cons IsFreshStart start later.added fresh later.fresh;
-  in_range = (range, later.in_range);
-}
-
-pub first-refused : (number : ℕ) (c : CaseData) (cs : List CaseData) (response : Response) → start_or_refusal (Task number) c ≡ Err response → starts_or_refusal number (c ∷ cs) ≡ Err response
-unfolding starts_or_refusal
-first-refused number c cs response refused = stops _ _ _ refused
-
-pub later-refused : (number : ℕ) (c : CaseData) (cs : List CaseData) (start : State) (response : Response) → start_or_refusal (Task number) c ≡ Ok start → starts_or_refusal (number + 1) cs ≡ Err response
-    → starts_or_refusal number (c ∷ cs) ≡ Err response
-unfolding starts_or_refusal
-later-refused number c cs start response loads refused = goes_on _ _ _ loads ∙ stops _ _ _ refused
-
--- a pattern of the first element and the rest, and of none
-
-whole-rest : {A : Type 0} (xs : List A) → take (suc (length xs) - 1) xs ≡ xs
-whole-rest xs = let fewer : suc (length xs) - 1 ≡ length xs = omega arith in ap (λ n. take n xs) fewer ∙ take-length xs
-
-pub first-rest : {A : Type 0} (xs : List A) (x : A) → 1 ≤ length xs → x ≡ slice_index_or xs 0 x → xs ≡ x ∷ take (length xs - 1) (drop 1 xs)
-first-rest [] x some is = absurd (omega (arith, some))
-first-rest (y ∷ ys) x some is = ap₂ (λ a l. a ∷ l) (sym is) (sym (whole-rest ys))
-
-short-none : {A : Type 0} (xs : List A) → length xs < 1 → xs ≡ []
-short-none [] short = refl
-short-none (x ∷ xs) short = absurd (omega (arith, short))
-
--- how machines are added
-
-pub adds-none : (number : ℕ) (cases : List CaseOf) (before : List Machine) → length cases < 1 → AreStarted number (map data_of cases) before before
-adds-none number cases before short = subst (λ (l : List CaseOf). AreStarted number (map data_of l) before before) (sym (short-none cases short)) (none-started number before)
-
-pub adds-more : (number : ℕ) (cs : List CaseData) (c : CaseData) (later : List CaseData) (start : Machine) (before middle now : List Machine) (r : Result (Unit {0}) Stop) → cs ≡ c ∷ later
-    → start_or_refusal (Task number) c ≡ Ok (state_of start) → IsFreshStart start → IsInRange c (state_of start) → middle ≡ before ++ start ∷ []
-    → AddsStarts (number + 1) later middle now r → AddsStarts number cs before now r
-adds-more number cs c later start before middle now (Ok done) are loads fresh range pushed rest =
-    subst (λ (l : List CaseData). AreStarted number l before now) (sym are) (more-started number c later start before middle now loads fresh range pushed rest)
-adds-more number cs c later start before middle now (Err stop) are loads fresh range pushed rest = λ response is.
-    subst (λ (l : List CaseData). starts_or_refusal number l ≡ Err response) (sym are) (later-refused number c later (state_of start) response loads (rest response is))
-
-pub adds-first-refused : (number : ℕ) (cs : List CaseData) (c : CaseData) (later : List CaseData) (response : Response) → cs ≡ c ∷ later → start_or_refusal (Task number) c ≡ Err response
-    → starts_or_refusal number cs ≡ Err response
-adds-first-refused number cs c later response are refused = subst (λ (l : List CaseData). starts_or_refusal number l ≡ Err response) (sym are) (first-refused number c later response refused)
-
--- what is written of tasks that are decided
-
-pub told-together : (digest : List ℕ → List ℕ) (m : Deciding) (ls : List LoadedCase) (cs : List CaseData) (starts : List Machine) (own_ends ends : List Ended) (answered : Answered) (before out text : List ℕ)
-    → map (λ (l : LoadedCase). data_of l.case.now) ls ≡ cs → map (λ (l : LoadedCase). l.start) ls ≡ starts → own_ends ≡ map (ended_of_loaded digest) ls → ends ≡ own_ends → before ≡ []
-    → out ≡ before ++ task_texts 1 (texts_in (responses m cs ends)) → answered ≡ gravest (responses m cs ends) → text ≡ out
-    → record { answered = answered; text = text } ≡ together (responses_by digest m cs (map state_of starts))
-told-together digest m ls cs starts own_ends ends answered before out text cases_are starts_are own_are ends_are none written gravest_is text_is =
-    let all : responses m cs ends ≡ responses_by digest m cs (map state_of starts) =
-    ap₂ (responses m) (sym cases_are) (ends_are ∙ own_are) ∙ (same-responses digest m ls ∙ ap₂ (λ (ds : List CaseData) (ms : List Machine). responses_by digest m ds (map state_of ms)) cases_are starts_are) in
-    ap₂ (λ (a : Answered) (t : List ℕ). record { answered = a; text = t }) (gravest_is ∙ ap gravest all)
-    (text_is ∙ (written ∙ (ap (λ (l : List ℕ). l ++ task_texts 1 (texts_in (responses m cs ends))) none ∙ ap (λ (rs : List Response). task_texts 1 (texts_in rs)) all)))

@@ -1,8 +1,7 @@
 -- The sentence in short, of tasks.
-use Rattle.std.proofs.Common.{◌≡◌, ℕ, ◌+◌, List, [], ◌∷◌, length, ◌⊎◌, inl, inr, Option, Some, None, Result, Ok, Bool, true, map, refl, sym, ap, subst, ◌∙◌}
-use Rattle.std.specs.Prelude.{Contains, All, zip, option_map, is_some, if◌then◌else◌}
+use Rattle.std.proofs.Common.{◌≡◌, ℕ, List, [], ◌∷◌, ◌⊎◌, inl, inr, Option, Some, None, Result, Ok, Bool, true, refl, sym, ap, subst, ◌∙◌}
+use Rattle.std.specs.Prelude.{All, zip, option_map, is_some, if◌then◌else◌}
 use Rattle.std.specs.Option.{ok_or, option_and_then}
-use Rattle.std.proofs.lemmas.List.{length-map}
 use Rattle.std.proofs.lemmas.List.Elements.{All-head, All-tail, All-nil, All-cons}
 use Rattle.rd_base.specs.Results.{◌>>=◌, map_fault}
 use Rattle.rv_step.specs.State.{State}
@@ -21,22 +20,23 @@ use Rattle.command_line.specs.declared.request.MatchText.{MatchText}
 use Rattle.command_line.specs.declared.request.MatchText.TheVariants.{Report, Full}
 use Rattle.transcript_text.specs.TaskParts.{IsTaskPart, TextsAreTaskParts}
 use Rattle.digest_core.specs.Name.{digest_of}
+use Rattle.command_line.specs.Words.{chosen}
 use Rattle.delegate.specs.Answered.{status_number}
 use Rattle.case_match.specs.Match.{start_root, record_of_case, verdict_of_record}
 use Rattle.delegate.specs.Decided.{written_as, tasks_for, match_head, balances_in, response_to_case, responses_to_cases}
-use Rattle.delegate.specs.Loading.{image_by, start_or_refusal, starts_or_refusal}
+use Rattle.delegate.specs.Loading.{LoadedData, next_subject, image_by, start_or_refusal, loads_or_refusal}
 use Rattle.delegate.specs.Refusal.{or_refusal, task_refusal, image_refusal, asm_refusal}
 use Rattle.delegate.specs.commands.Judge.{judging}
 use Rattle.delegate.specs.Headline.{AreTasks}
-use Rattle.delegate.specs.InShort.{IsImageOf, IsStartOf, AreTasksOf, honest, HasLastLine, accepting, ShowsTwoStrings, AcceptsOrCollides, TaskEnds, TasksEnd, AskForTheMatch}
+use Rattle.delegate.specs.InShort.{IsImageOf, IsStartOf, AreTasksOf, HasLastLine, accepting, ShowsTwoStrings, AcceptsOrCollides, TaskEnds, TasksEnd, AskForTheMatch}
 use Rattle.delegate.specs.InShortLaw.{HeadlineInShort}
 use Rattle.delegate.specs.Outcome.{decides, outcome}
-use Rattle.delegate.specs.Standing.{IsPlayed, AreAllPlayed, CasesAreInRange}
+use Rattle.delegate.specs.Standing.{IsPlayed, DecidesInRange}
 use Rattle.delegate.specs.declared.response.Response.{Response}
 use Rattle.delegate.specs.declared.response.Subject.{Subject}
 use Rattle.delegate.specs.declared.response.Subject.TheVariants.{Task}
 use Rattle.delegate.proofs.OutcomeLemmas.{goes_on, under_limit}
-use Rattle.delegate.proofs.TaskLemmas.{texts_in, first-starts, starts-count, told-count}
+use Rattle.delegate.proofs.TaskLemmas.{texts_in, texts-count, first-loads, loads-count}
 use Rattle.delegate.proofs.CaseLemmas.{tasks-read, same-ok, outcome-tasks}
 
 -- THE IMAGE OF A CASE IS LOADED
@@ -77,43 +77,45 @@ abbrev Loads : CaseData → Type 0
 Loads c = (start : State) × IsStartOf IsImageOf c start
 
 -- their images load, so that their runs start
-pub record AllStart (number : ℕ) (cs : List CaseData) : Type 0 where
-  pub starts : List State
-  pub are : starts_or_refusal number cs ≡ Ok starts
+pub record AllLoad (subject : Subject) (cs : List CaseData) : Type 0 where
+  pub loads : List LoadedData
+  pub are : loads_or_refusal subject cs ≡ Ok loads
 
-starts-are : (number : ℕ) (cs : List CaseData) → All Loads cs → AllStart number cs
-unfolding starts_or_refusal
-starts-are number [] load = record { starts = []; are = refl }
-starts-are number (c ∷ cs) load =
+loads-are : (subject : Subject) (cs : List CaseData) → All Loads cs → AllLoad subject cs
+unfolding loads_or_refusal
+loads-are subject [] load = record { loads = []; are = refl }
+loads-are subject (c ∷ cs) load =
     let one : Loads c = All-head Loads c cs load in
-    let more = starts-are (number + 1) cs (All-tail Loads c cs load) in
-    record { starts = one.0 ∷ more.starts; are = goes_on _ _ _ (start-is (Task number) c one.0 one.1) ∙ goes_on _ _ _ more.are }
+    let more = loads-are (next_subject subject) cs (All-tail Loads c cs load) in
+    record { loads = record { case = c; start = one.0 } ∷ more.loads; are = goes_on _ _ _ (start-is subject c one.0 one.1) ∙ goes_on _ _ _ more.are }
 
 -- THE TEXT UNDER THE LINE OF A TASK
 
-part-ends : (name : DigestName) (final : State) (status : ℕ) (text : List ℕ) → AcceptsOrCollides name final status text → HasLastLine (accepting final) text ⊎ ShowsTwoStrings name text
+part-ends : (name : DigestName) (final : State) (status : ℕ) (text : List ℕ) → AcceptsOrCollides name final status text → HasLastLine (accepting final) text ⊎ ShowsTwoStrings HasLastLine name text
 part-ends name final status text (inl accepts) = inl accepts.last
 part-ends name final status text (inr collides) = inr collides.shows
 
 -- that of one task, whose run starts in the state that was loaded
-one-ends : HeadlineInShort → (asked : MatchText) (name : DigestName) (subject : Subject) (c : CaseData) (s : State) → start_or_refusal subject c ≡ Ok s → IsPlayed (judging asked name) c s
+one-ends : HeadlineInShort → (asked : MatchText) (name : DigestName) (subject : Subject) (c : CaseData) (s : State) → start_or_refusal subject c ≡ Ok s → IsPlayed (judging asked name) (record { case = c; start = s })
     → TaskEnds IsImageOf name (c, (response_to_case (judging asked name) c s).text)
 one-ends short asked name subject c s loads played start starts contains =
     let same : s ≡ start = same-ok (start_or_refusal subject c) s start loads (start-is subject c start starts) in
-    subst (λ (x : State). HasLastLine (accepting (state_at x c.bound)) (response_to_case (judging asked name) c s).text ⊎ ShowsTwoStrings name (response_to_case (judging asked name) c s).text) same
+    subst (λ (x : State). HasLastLine (accepting (state_at x c.bound)) (response_to_case (judging asked name) c s).text ⊎ ShowsTwoStrings HasLastLine name (response_to_case (judging asked name) c s).text) same
     (part-ends name (state_at s c.bound) (status_number (response_to_case (judging asked name) c s).answered) (response_to_case (judging asked name) c s).text
-    (short asked name c s played.range played.strings contains))
+    (short asked name c s played.range played.shown.strings contains))
 
-all-end : HeadlineInShort → (asked : MatchText) (name : DigestName) (number : ℕ) (cs : List CaseData) (starts : List State) → starts_or_refusal number cs ≡ Ok starts
-    → AreAllPlayed (judging asked name) cs starts → All (TaskEnds IsImageOf name) (zip cs (texts_in (responses_to_cases (judging asked name) cs starts)))
-all-end short asked name number [] starts loads played = All-nil (TaskEnds IsImageOf name)
-all-end short asked name number (c ∷ cs) starts loads played =
-    let all = first-starts number c cs starts loads in
-    subst (λ (ss : List State). All (TaskEnds IsImageOf name) (zip (c ∷ cs) (texts_in (responses_to_cases (judging asked name) (c ∷ cs) ss)))) (sym all.are)
-    (let here : AreAllPlayed (judging asked name) (c ∷ cs) (all.first ∷ all.later) = subst (AreAllPlayed (judging asked name) (c ∷ cs)) all.are played in
-    All-cons (TaskEnds IsImageOf name) (c, (response_to_case (judging asked name) c all.first).text) (zip cs (texts_in (responses_to_cases (judging asked name) cs all.later)))
-    (one-ends short asked name (Task number) c all.first all.loads here.0)
-    (all-end short asked name (number + 1) cs all.later all.starts_later here.1))
+all-end : HeadlineInShort → (asked : MatchText) (name : DigestName) (subject : Subject) (cs : List CaseData) (ls : List LoadedData) → loads_or_refusal subject cs ≡ Ok ls
+    → All (IsPlayed (judging asked name)) ls → All (TaskEnds IsImageOf name) (zip cs (texts_in (responses_to_cases (judging asked name) ls)))
+all-end short asked name subject [] ls loads played = All-nil (TaskEnds IsImageOf name)
+all-end short asked name subject (c ∷ cs) ls loads played =
+    let all = first-loads subject c cs ls loads in
+    let m = judging asked name in
+    let own : LoadedData = record { case = c; start = all.first } in
+    subst (λ (ks : List LoadedData). All (TaskEnds IsImageOf name) (zip (c ∷ cs) (texts_in (responses_to_cases m ks)))) (sym all.are)
+    (let here : All (IsPlayed m) (own ∷ all.later) = subst (All (IsPlayed m)) all.are played in
+    All-cons (TaskEnds IsImageOf name) (c, (response_to_case m c all.first).text) (zip cs (texts_in (responses_to_cases m all.later)))
+    (one-ends short asked name subject c all.first all.loads (All-head (IsPlayed m) own all.later here))
+    (all-end short asked name (next_subject subject) cs all.later all.loads_later (All-tail (IsPlayed m) own all.later here)))
 
 -- no line of such a text is like that of a task
 
@@ -127,22 +129,22 @@ one-apart law Full name c s =
     let settled = record_of_case digest c s in
     law.full (match_head name c (start_root digest s)) settled (verdict_of_record digest c s settled)
 
-all-apart : TextsAreTaskParts → (asked : MatchText) (name : DigestName) (cs : List CaseData) (starts : List State) → All IsTaskPart (texts_in (responses_to_cases (judging asked name) cs starts))
-all-apart law asked name [] starts = All-nil IsTaskPart
-all-apart law asked name (c ∷ cs) [] = All-nil IsTaskPart
-all-apart law asked name (c ∷ cs) (s ∷ starts) =
-    All-cons IsTaskPart (response_to_case (judging asked name) c s).text (texts_in (responses_to_cases (judging asked name) cs starts)) (one-apart law asked name c s) (all-apart law asked name cs starts)
+all-apart : TextsAreTaskParts → (asked : MatchText) (name : DigestName) (ls : List LoadedData) → All IsTaskPart (texts_in (responses_to_cases (judging asked name) ls))
+all-apart law asked name [] = All-nil IsTaskPart
+all-apart law asked name (l ∷ ls) =
+    All-cons IsTaskPart (response_to_case (judging asked name) l.case l.start).text (texts_in (responses_to_cases (judging asked name) ls)) (one-apart law asked name l.case l.start)
+    (all-apart law asked name ls)
 
-pub tasks-in-short : TextsAreTaskParts → HeadlineInShort → (words : List (List ℕ)) (bytes : List ℕ) → CasesAreInRange words bytes → (name : DigestName) (cs : List CaseData)
-    → AskForTheMatch words name → AreTasksOf IsImageOf bytes cs → TasksEnd IsImageOf name cs (outcome words bytes).text
+pub tasks-in-short : TextsAreTaskParts → HeadlineInShort → (words : List (List ℕ)) (bytes : List ℕ) → DecidesInRange (chosen words) bytes → (name : DigestName) (cs : List CaseData)
+    → AskForTheMatch words name → AreTasksOf IsImageOf bytes cs → TasksEnd (TaskEnds IsImageOf name) cs (outcome words bytes).text
 tasks-in-short law short words bytes in_range name cs asks are =
     let m = judging asks.text name in
-    let all = starts-are 1 cs are.load in
-    let is : AreTasks words bytes m cs all.starts = record { asked = ap (option_and_then decides) asks.chosen_is; reads = tasks-are asks.text bytes cs are; loads = all.are } in
+    let all = loads-are (Task 1) cs are.load in
+    let is : AreTasks words bytes m all.loads = record { asked = ap (option_and_then decides) asks.chosen_is; cases = cs; reads = tasks-are asks.text bytes cs are; loads = all.are } in
     record {
-      parts = texts_in (responses_to_cases m cs all.starts);
-      count = length-map (responses_to_cases m cs all.starts) (λ (r : Response). r.text) ∙ told-count (digest_of name) m cs all.starts (starts-count 1 cs all.starts all.are);
-      apart = all-apart law asks.text name cs all.starts;
-      whole = ap (λ (r : Response). r.text) (outcome-tasks words bytes m cs all.starts is);
-      each = all-end short asks.text name 1 cs all.starts all.are (in_range m is.asked (Many cs) is.reads all.starts is.loads);
+      parts = texts_in (responses_to_cases m all.loads);
+      count = texts-count m all.loads ∙ loads-count (Task 1) cs all.loads all.are;
+      apart = all-apart law asks.text name all.loads;
+      whole = ap (λ (r : Response). r.text) (outcome-tasks words bytes m all.loads is);
+      each = all-end short asks.text name (Task 1) cs all.loads all.are (in_range m is.asked (Many cs) is.reads all.loads is.loads);
     }

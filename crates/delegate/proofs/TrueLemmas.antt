@@ -4,7 +4,7 @@ use Rattle.std.proofs.lemmas.Bool.Decides.{nat_tests}
 use Rattle.bisect_game.specs.Bisection.{can_cut}
 use Rattle.bisect_game.specs.declared.settled.Kind.{Kind}
 use Rattle.bisect_game.specs.declared.settled.Kind.TheVariants as kind
-use Rattle.tournament.specs.Asked.{IsCut, IsWithinBound}
+use Rattle.tournament.specs.Asked.{IsWithinBound}
 use Rattle.delegate.specs.OfCase.{may_ask}
 
 both : (a b : Bool) → (a && b) ≡ true → (a ≡ true) × (b ≡ true)

@@ -16,8 +16,6 @@ use Rattle.rv_text.specs.Assembly.{assembled}
 use Rattle.delegate.specs.AsmImage.{bytes_of, words_at, asm_words, asm_at}
 use Rattle.delegate.specs.declared.loading.AsmImageFault.{AsmImageFault}
 use Rattle.delegate.specs.declared.loading.AsmImageFault.TheVariants as asm
-use Rattle.tournament.specs.declared.reading.Verdict.{Verdict}
-use Rattle.tournament.specs.declared.reading.Verdict.TheVariants.{Accept, NoneLeft, Collision}
 use Rattle.transcript_text.specs.declared.text.Stated.{Stated}
 use Rattle.transcript_text.specs.declared.reader.fault.TextFault.{TextFault}
 use Rattle.transcript_text.specs.declared.reader.fault.TextFault.TheVariants as texts
@@ -25,16 +23,14 @@ use Rattle.transcript_text.specs.reader.ReadText.{read_text}
 use Rattle.audit.specs.declared.finding.Audit.{Audit}
 use Rattle.audit.specs.declared.finding.Audit.TheVariants.{Confirmed, Refused}
 use Rattle.command_line.specs.Words.{chosen}
-use Rattle.command_line.specs.declared.request.MatchText.{MatchText}
-use Rattle.command_line.specs.declared.request.MatchText.TheVariants.{Report, Full}
 use Rattle.command_line.specs.declared.request.Command.{Command}
 use Rattle.command_line.specs.declared.request.Command.TheVariants.{Judge, Run, Roots, Listing, Big, Audit as AuditOf}
-use Rattle.case_match.specs.Match.{record_of_case, verdict_of_record}
 use Rattle.delegate.specs.Answered.{is_refusal}
 use Rattle.delegate.specs.Refusal.{case_fault_text, task_refusal, rule_text, asm_fault_text}
-use Rattle.digest_core.specs.Name.{digest_of}
-use Rattle.delegate.specs.Decided.{written_as, answered_for, responses_to_cases}
+use Rattle.delegate.specs.Loading.{LoadedData}
+use Rattle.delegate.specs.Decided.{Deciding, gravest, responses_to_cases}
 use Rattle.delegate.specs.commands.Judge.{judging}
+use Rattle.delegate.specs.commands.Big.{summing_up}
 use Rattle.delegate.specs.commands.Audit.{text_fault_text, response_to_finding}
 use Rattle.delegate.specs.Outcome.{outcome}
 use Rattle.delegate.specs.Answering.{EachRefusalSaysWhy}
@@ -188,27 +184,20 @@ of-texts law = record {
     by stated (Confirmed verdict) = λ refused. absurd (cc refused)
     by stated (Refused line cause) = λ refused e. cc e
 
-no-verdict : (text : MatchText) (verdict : Verdict) → is_refusal (answered_for (written_as text) verdict) ≡ false
-no-verdict Report (Accept number) = refl
-no-verdict Report NoneLeft = refl
-no-verdict Report (Collision x y) = refl
-no-verdict Full (Accept number) = refl
-no-verdict Full NoneLeft = refl
-no-verdict Full (Collision x y) = refl
+no-refusal : {X : Type 0} (m : Deciding) (loads : List LoadedData) → is_refusal (gravest (responses_to_cases m loads)) ≡ true → X
+no-refusal m loads refused = (let both = sym refused ∙ gravest-is is_refusal false refl refl refl (responses_to_cases m loads) in absurd (cc both))
 
 parts : NoneIsMemory → (command : Command) → OfCommand SaysWhy command
 parts none (Judge text name) = record {
   of_cases = of-cases none;
   untold = λ bytes fault is refused. task-why none bytes fault is;
-  one = λ c start refused.
-      (let both = sym refused ∙ no-verdict text (verdict_of_record (digest_of name) c start (record_of_case (digest_of name) c start)) in absurd (cc both));
-  many = λ cs starts refused. (let both = sym refused ∙ gravest-is is_refusal false refl refl refl (responses_to_cases (judging text name) cs starts) in absurd (cc both));
+  decided = λ subject loads refused. no-refusal (judging text name) loads refused;
 }
 parts none Run = of-cases none
 parts none Roots = of-cases none
 parts none Listing = of-cases none
 parts none AuditOf = of-texts none
-parts none (Big seed) = λ c start refused. absurd (cc refused)
+parts none (Big seed) = λ subject loads refused. no-refusal (summing_up seed) loads refused
 
 pub refusals-say-why : NoneIsMemory → EachRefusalSaysWhy
 refusals-say-why none words bytes = by (chosen words) refl

@@ -12,6 +12,7 @@ use Rattle.command_line.specs.declared.request.Command.TheVariants.{Audit}
 use Rattle.case_match.specs.Match.{record_of_case}
 use Rattle.case_match.specs.TruthfulInCase.{IsInRange}
 use Rattle.digest_core.specs.Name.{digest_of}
+use Rattle.delegate.specs.Loading.{LoadedData}
 use Rattle.delegate.specs.Decided.{response_to_case, StandsUnder}
 use Rattle.delegate.specs.commands.Judge.{judging}
 use Rattle.delegate.specs.Headline.{IsCase, AreTasks}
@@ -42,8 +43,8 @@ pub record IsPartAuditable (auditing : List (List ℕ)) (tasks t : ℕ) (text : 
 -- of what `judge --full` writes of tasks `audit` confirms each part, however its match ends
 abbrev pub AreAuditable : List (List ℕ) → List ℕ → Response → Type 0
 AreAuditable words bytes response =
-    (name : DigestName) (cs : List CaseData) (starts : List State) (t : ℕ) (auditing : List (List ℕ)) → AreTasks words bytes (judging Full name) cs starts →
-    0 < t → t ≤ length cs → chosen auditing ≡ Some Audit → IsPartAuditable auditing (length cs) t response.text
+    (name : DigestName) (tasks : List LoadedData) (t : ℕ) (auditing : List (List ℕ)) → AreTasks words bytes (judging Full name) tasks →
+    0 < t → t ≤ length tasks → chosen auditing ≡ Some Audit → IsPartAuditable auditing (length tasks) t response.text
 
 -- of what is written of a case that is in range and whose answers have wire forms
 abbrev pub WrittenTextsAreConfirmed : Type 0

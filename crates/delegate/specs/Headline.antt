@@ -6,7 +6,7 @@ use Rattle.rv_step.specs.State.{State}
 use Rattle.case_reader.specs.Case.{CaseData}
 use Rattle.case_reader.specs.Tasks.{Many}
 use Rattle.tournament.specs.declared.reading.Verdict.{Verdict}
-use Rattle.tournament.specs.declared.reading.Verdict.TheVariants.{Accept, NoneLeft, Collision}
+use Rattle.tournament.specs.declared.reading.Verdict.TheVariants.{Collision}
 use Rattle.tournament.specs.Bracket.{live}
 use Rattle.tournament.specs.FewPosts.{disputes_played}
 use Rattle.tournament.specs.Theorem.{AreTrue, Stays, IsCollisionIn}
@@ -22,9 +22,9 @@ use Rattle.case_match.specs.Match.{start_root, rules_of_case, record_of_case, ve
 use Rattle.case_match.specs.TruthfulInCase.{IsTruthfulInCase, IsInRange}
 use Rattle.digest_core.specs.Name.{digest_of}
 use Rattle.delegate.specs.Decided.{Deciding, case_for, tasks_for, answered_for, match_head, balances_in, before_verdict, response_to_case, together, responses_to_cases, StandsUnder}
-use Rattle.delegate.specs.Loading.{start_or_refusal, starts_or_refusal}
+use Rattle.delegate.specs.Loading.{LoadedData, start_or_refusal, loads_or_refusal}
 use Rattle.delegate.specs.Outcome.{decides}
-use Rattle.delegate.specs.declared.response.Subject.TheVariants.{Whole}
+use Rattle.delegate.specs.declared.response.Subject.TheVariants.{Whole, Task}
 use Rattle.delegate.specs.declared.response.Response.{Response}
 use Rattle.delegate.specs.declared.response.Answered.TheVariants.{Done}
 use Rattle.bisect_game.specs.declared.settled.Settled.{Settled}
@@ -52,12 +52,12 @@ pub record IsCase (words : List (List ℕ)) (bytes : List ℕ) (m : Deciding) (c
   pub reads : case_for m.written bytes ≡ Ok c
   pub loads : start_or_refusal Whole c ≡ Ok start
 
--- the arguments ask for matches to be decided in this way, and for the bytes they are those of tasks with these cases, whose runs start
--- in these states
-pub record AreTasks (words : List (List ℕ)) (bytes : List ℕ) (m : Deciding) (cs : List CaseData) (starts : List State) : Type 0 where
+-- the arguments ask for matches to be decided in this way, and for the bytes they are those of tasks, whose cases are loaded so
+pub record AreTasks (words : List (List ℕ)) (bytes : List ℕ) (m : Deciding) (tasks : List LoadedData) : Type 0 where
   pub asked : option_and_then decides (chosen words) ≡ Some m
-  pub reads : tasks_for m.written bytes ≡ Ok (Many cs)
-  pub loads : starts_or_refusal 1 cs ≡ Ok starts
+  pub cases : List CaseData
+  pub reads : tasks_for m.written bytes ≡ Ok (Many cases)
+  pub loads : loads_or_refusal (Task 1) cases ≡ Ok tasks
 
 -- IT IS NOT ELIMINATED: it is live at the end, with the true claim; its answers in each of its disputes are given and true;
 -- no line of the report or of the full text calls it faulty, spent or refuted; and if there are deposits it ends with its stake and one more
@@ -92,8 +92,7 @@ pub record Headline (m : Deciding) (response : Response) (c : CaseData) (start :
 -- the strings of a collision are of bytes
 abbrev pub AreByteStrings : Verdict → Type 0
 AreByteStrings (Collision x y) = AreBytes x × AreBytes y
-AreByteStrings (Accept n) = Unit {0}
-AreByteStrings NoneLeft = Unit {0}
+AreByteStrings _ = Unit {0}
 
 -- the headline holds of what is written of each case with numbers in range, whose run starts in a valid state, and whose verdict shows
 -- strings of bytes if it is a collision
@@ -118,17 +117,17 @@ KeepsTheTruthful words bytes response =
 -- answer is the gravest
 abbrev pub AnswersTheTasks : List (List ℕ) → List ℕ → Response → Type 0
 AnswersTheTasks words bytes response =
-    (m : Deciding) (cs : List CaseData) (starts : List State) → AreTasks words bytes m cs starts → response ≡ together (responses_to_cases m cs starts)
+    (m : Deciding) (tasks : List LoadedData) → AreTasks words bytes m tasks → response ≡ together (Task 1) (responses_to_cases m tasks)
 
 -- the text is one of parts, each under the line of its task, and the headline holds of that of task t
-pub record HeadlineOfTask (m : Deciding) (response : Response) (tasks t : ℕ) (c : CaseData) (start : State) (p : ℕ) : Type 0 where
+pub record HeadlineOfTask (m : Deciding) (response : Response) (tasks t : ℕ) (task : LoadedData) (p : ℕ) : Type 0 where
   pub part : Response
   pub stands : StandsUnder tasks t part.text response.text
-  pub keeps : Headline m part c start p
+  pub keeps : Headline m part task.case task.start p
 
 -- THE HEADLINE FOR TASKS: a truthful prover of one task is kept in its part of the text, whatever the provers of other tasks do
 abbrev pub KeepsTheTruthfulOfTasks : List (List ℕ) → List ℕ → Response → Type 0
 KeepsTheTruthfulOfTasks words bytes response =
-    (m : Deciding) (cs : List CaseData) (starts : List State) (t : ℕ) (c : CaseData) (start : State) (p : ℕ) → AreTasks words bytes m cs starts →
-    0 < t → slice_get cs (t - 1) ≡ Some c → slice_get starts (t - 1) ≡ Some start → IsTruthfulInCase (digest_of m.digest) c start p →
-    HeadlineOfTask m response (length cs) t c start p
+    (m : Deciding) (tasks : List LoadedData) (t : ℕ) (task : LoadedData) (p : ℕ) → AreTasks words bytes m tasks →
+    0 < t → slice_get tasks (t - 1) ≡ Some task → IsTruthfulInCase (digest_of m.digest) task.case task.start p →
+    HeadlineOfTask m response (length tasks) t task p

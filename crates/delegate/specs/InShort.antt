@@ -30,7 +30,8 @@ use Rattle.command_line.specs.declared.request.MatchText.{MatchText}
 use Rattle.command_line.specs.declared.request.Command.TheVariants.{Judge, Run, Big}
 use Rattle.digest_core.specs.Name.{digest_of}
 use Rattle.transcript_text.specs.TaskParts.{IsTaskPart}
-use Rattle.delegate.specs.Decided.{task_texts}
+use Rattle.delegate.specs.Decided.{texts_under}
+use Rattle.delegate.specs.declared.response.Subject.TheVariants.{Task}
 
 -- THE CASE
 
@@ -46,9 +47,8 @@ IsBinaryImageOf Asm text image = ⊥
 
 -- files of each format
 abbrev pub IsImageOf : ImageRule
-IsImageOf Flat file image = flat_at file ≡ Ok image
-IsImageOf Elf file image = elf_at file ≡ Ok image
 IsImageOf Asm text image = asm_at text ≡ Ok image
+IsImageOf format file image = IsBinaryImageOf format file image
 
 -- the run of a case starts in this state, its image being read so
 pub record IsStartOf (IsImage : ImageRule) (c : CaseData) (start : State) : Type 0 where
@@ -96,17 +96,17 @@ pub record Accepts (final : State) (status : ℕ) (text : List ℕ) : Type 0 whe
   pub done : status ≡ 0
   pub last : HasLastLine (accepting final) text
 
--- the last line shows two different strings with one digest
-pub record ShowsTwoStrings (name : DigestName) (text : List ℕ) : Type 0 where
+-- two different strings with one digest are shown where the text ends: by its last line, say
+pub record ShowsTwoStrings (Ends : List ℕ → List ℕ → Type 0) (name : DigestName) (text : List ℕ) : Type 0 where
   pub x : List ℕ
   pub y : List ℕ
   pub strings : AreOfOneDigest name x y
-  pub last : HasLastLine (colliding x y) text
+  pub last : Ends (colliding x y) text
 
 -- OR the status is 11, and the last line shows such strings
 pub record Collides (name : DigestName) (status : ℕ) (text : List ℕ) : Type 0 where
   pub collision : status ≡ 11
-  pub shows : ShowsTwoStrings name text
+  pub shows : ShowsTwoStrings HasLastLine name text
 
 -- `run`: the status is 0, and the one line answers with the status and the output in this state
 pub record AnswersWith (final : State) (status : ℕ) (text : List ℕ) : Type 0 where
@@ -121,23 +121,23 @@ AcceptsOrCollides name final status text = Accepts final status text ⊎ Collide
 -- the text under the line of a task ends so by its last line, if one prover of its case is `{}`
 abbrev pub TaskEnds : ImageRule → DigestName → CaseData × List ℕ → Type 0
 TaskEnds IsImage name task = (start : State) → IsStartOf IsImage task.0 start → Contains task.0.provers honest →
-    HasLastLine (accepting (state_at start task.0.bound)) task.1 ⊎ ShowsTwoStrings name task.1
+    HasLastLine (accepting (state_at start task.0.bound)) task.1 ⊎ ShowsTwoStrings HasLastLine name task.1
 
 -- there is a text for each task, they stand each under its line and are all that is written, and each ends so. No line of theirs begins
 -- with `task `: what is written is cut where a line begins so
-pub record TasksEnd (IsImage : ImageRule) (name : DigestName) (cs : List CaseData) (text : List ℕ) : Type 0 where
+pub record TasksEnd (Ends : CaseData × List ℕ → Type 0) (cs : List CaseData) (text : List ℕ) : Type 0 where
   pub parts : List (List ℕ)
   pub count : length parts ≡ length cs
   pub apart : All IsTaskPart parts
-  pub whole : text ≡ task_texts 1 parts
-  pub each : All (TaskEnds IsImage name) (zip cs parts)
+  pub whole : text ≡ texts_under (Task 1) parts
+  pub each : All Ends (zip cs parts)
 
 -- THE SENTENCE, of what is asked for, bytes, status and text: if the arguments ask for the match by a digest, `judge` ends so if one prover
 -- is `{}`, whatever the others say, and so does the text of each task that has such a prover; and if they ask for the run, it is answered
 pub record Sentence (IsImage : ImageRule) (judges : DigestName → Type 0) (runs : Type 0) (bytes : List ℕ) (status : ℕ) (text : List ℕ) : Type 0 where
   pub judge : (name : DigestName) (c : CaseData) (start : State) → judges name → IsCaseOf bytes c → IsStartOf IsImage c start → Contains c.provers honest →
       AcceptsOrCollides name (state_at start c.bound) status text
-  pub judge_tasks : (name : DigestName) (cs : List CaseData) → judges name → AreTasksOf IsImage bytes cs → TasksEnd IsImage name cs text
+  pub judge_tasks : (name : DigestName) (cs : List CaseData) → judges name → AreTasksOf IsImage bytes cs → TasksEnd (TaskEnds IsImage name) cs text
   pub run : (c : CaseData) (start : State) → runs → IsCaseOf bytes c → IsStartOf IsImage c start → AnswersWith (state_at start c.bound) status text
 
 -- the arguments, as `clap` takes them, ask for the match by a digest, and for either of its texts
@@ -164,15 +164,9 @@ pub record EndsWith (last text : List ℕ) : Type 0 where
   pub before : List ℕ
   pub whole : text ≡ before ++ (codes " " ++ (last ++ codes "\n"))
 
-pub record EndsWithTwoStrings (name : DigestName) (text : List ℕ) : Type 0 where
-  pub x : List ℕ
-  pub y : List ℕ
-  pub strings : AreOfOneDigest name x y
-  pub last : EndsWith (colliding x y) text
-
 abbrev pub SaysOfBig : List (List ℕ) → ℕ → List ℕ → Type 0
 SaysOfBig words status text = (seed : ℕ) → chosen words ≡ Some (Big seed) →
-    (status ≡ 0) × (EndsWith (accepting (state_at (big_start seed) big_bound)) text ⊎ EndsWithTwoStrings Sha256 text)
+    (status ≡ 0) × (EndsWith (accepting (state_at (big_start seed) big_bound)) text ⊎ ShowsTwoStrings EndsWith Sha256 text)
 
 -- WHAT WAS WRITTEN, of bytes that the source may have had: a text, whole, of which P holds
 pub record IsWrittenOf (P : List ℕ → Type 0) (before now : Option (List ℕ)) : Type 0 where

@@ -16,7 +16,7 @@ use Rattle.workload.specs.Workload.{big_data}
 use Rattle.delegate.specs.commands.Judge.{judging}
 use Rattle.delegate.specs.commands.Big.{summing_up}
 use Rattle.digest_core.specs.declared.name.DigestName.TheVariants.{Sha256}
-use Rattle.delegate.specs.InShort.{honest, accepting, EndsWith, EndsWithTwoStrings, big_start, big_bound, HasLastLine, AskForTheMatch, AskForTheRun, IsImageOf, IsCaseOf, IsStartOf, Collides, AcceptsOrCollides, SaysInShort}
+use Rattle.delegate.specs.InShort.{honest, accepting, EndsWith, ShowsTwoStrings, big_start, big_bound, HasLastLine, AskForTheMatch, AskForTheRun, IsImageOf, IsCaseOf, IsStartOf, Collides, AcceptsOrCollides, SaysInShort}
 use Rattle.delegate.specs.Plainly.{SaysPlainly}
 
 -- whatever the other provers say, what is written of a case with a prover `{}` accepts the run, or shows a collision
@@ -49,4 +49,4 @@ BigInShort = (seed : ℕ) → IsInRange (big_data seed) (big_start seed) →
     AreByteStrings (verdict_of_record (digest_of Sha256) (big_data seed) (big_start seed) (record_of_case (digest_of Sha256) (big_data seed) (big_start seed))) →
     (status_number (response_to_case (summing_up seed) (big_data seed) (big_start seed)).answered ≡ 0)
     × (EndsWith (accepting (state_at (big_start seed) big_bound)) (response_to_case (summing_up seed) (big_data seed) (big_start seed)).text
-    ⊎ EndsWithTwoStrings Sha256 (response_to_case (summing_up seed) (big_data seed) (big_start seed)).text)
+    ⊎ ShowsTwoStrings EndsWith Sha256 (response_to_case (summing_up seed) (big_data seed) (big_start seed)).text)

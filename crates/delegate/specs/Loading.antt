@@ -1,10 +1,11 @@
--- To believe. How a case is read and loaded, by every command on a case, and how tasks are.
+-- To believe. How a case is read and loaded, by every command on a case, and how tasks are: one case is read and loaded as the tasks of one,
+-- of which nothing is said.
 use Rattle.std.specs.Prelude.{ℕ, ◌+◌, List, [], ◌∷◌, length, nat_lt, Result, Ok, Err, if◌then◌else◌}
 use Rattle.rd_base.specs.Results.{◌>>=◌}
 use Rattle.rv_step.specs.State.{State}
 use Rattle.rv_step.specs.Loaded.{started}
 use Rattle.case_reader.specs.Case.{CaseData, case_at}
-use Rattle.case_reader.specs.Tasks.{TasksData, tasks_at}
+use Rattle.case_reader.specs.Tasks.{TasksData, One, Many, tasks_at}
 use Rattle.case_reader.specs.declared.case.Format.{Format}
 use Rattle.case_reader.specs.declared.case.Format.TheVariants.{Flat, Elf, Asm}
 use Rattle.image_reader.specs.Image.{Image, flat_at}
@@ -33,20 +34,47 @@ image_by subject Flat file = or_refusal (image_refusal subject) (flat_at file)
 image_by subject Elf file = or_refusal (image_refusal subject) (elf_at file)
 image_by subject Asm text = or_refusal (asm_refusal subject) (asm_at text)
 
--- the image of a case
-abbrev pub image_or_refusal : Subject → CaseData → Result Image Response
-image_or_refusal subject c = image_by subject c.format c.image
-
 -- the state in which the run of a case starts, of its version
 unfoldable pub start_or_refusal : Subject → CaseData → Result State Response
 start_or_refusal subject c = do
-  image ← image_or_refusal subject c
+  image ← image_by subject c.format c.image
   Ok (started c.version image.memory image.entry c.input)
 
--- the states in which the runs of tasks start, the first of which has this number
-unfoldable pub starts_or_refusal : ℕ → List CaseData → Result (List State) Response
-starts_or_refusal t [] = Ok []
-starts_or_refusal t (c ∷ cs) = do
-  start ← start_or_refusal (Task t) c
-  starts ← starts_or_refusal (t + 1) cs
-  Ok (start ∷ starts)
+-- what is answered of the case of bytes, whose run starts in this state. A case that doesn't pass a test is refused before its image is loaded.
+unfoldable pub of_case : (CaseData → Result (Unit {0}) Response) → (CaseData → State → Response) → List ℕ → Result Response Response
+of_case test answer bytes = do
+  c ← case_or_refusal bytes
+  passed ← test c
+  start ← start_or_refusal Whole c
+  Ok (answer c start)
+
+-- the test that each case passes
+abbrev pub every_case : CaseData → Result (Unit {0}) Response
+every_case c = Ok tt
+
+-- a case that is loaded: the case, and the state in which its run starts
+pub record LoadedData : Type 0 where
+  pub case : CaseData
+  pub start : State
+
+-- the subject of the case behind one: of tasks, the next
+abbrev pub next_subject : Subject → Subject
+next_subject Whole = Whole
+next_subject (Task t) = Task (t + 1)
+
+-- cases, loaded, the first of which is of this subject
+unfoldable pub loads_or_refusal : Subject → List CaseData → Result (List LoadedData) Response
+loads_or_refusal subject [] = Ok []
+loads_or_refusal subject (c ∷ cs) = do
+  start ← start_or_refusal subject c
+  loads ← loads_or_refusal (next_subject subject) cs
+  Ok (record { case = c; start = start } ∷ loads)
+
+-- the cases of what was read, and the first one's subject
+abbrev pub cases_of_tasks : TasksData → List CaseData
+cases_of_tasks (One c) = c ∷ []
+cases_of_tasks (Many cs) = cs
+
+abbrev pub first_subject : TasksData → Subject
+first_subject (One c) = Whole
+first_subject (Many cs) = Task 1

@@ -16,7 +16,7 @@ use Rattle.plain_answers.specs.Plain.{plain, plain_root}
 use Rattle.case_reader.specs.Case.{CaseData}
 use Rattle.case_match.specs.Match.{start_root}
 use Rattle.delegate.specs.Refusal.{usage}
-use Rattle.delegate.specs.Loading.{within_limit, case_or_refusal, start_or_refusal}
+use Rattle.delegate.specs.Loading.{within_limit, case_or_refusal, start_or_refusal, of_case, every_case}
 use Rattle.delegate.specs.Outcome.{either_way}
 use Rattle.delegate.specs.declared.response.Subject.TheVariants.{Whole}
 use Rattle.delegate.specs.declared.response.Response.{Response}
@@ -26,12 +26,8 @@ use Rattle.delegate.specs.declared.response.Answered.TheVariants.{Done}
 abbrev pub root_of_start : State → Response
 root_of_start start = record { answered = Done; text = (start_root sha256 start).0 }
 
--- of the case of bytes
-unfoldable pub start_response : List ℕ → Result Response Response
-start_response bytes = do
-  c ← case_or_refusal bytes
-  start ← start_or_refusal Whole c
-  Ok (root_of_start start)
+abbrev pub start_response : List ℕ → Result Response Response
+start_response bytes = of_case every_case (λ c start. root_of_start start) bytes
 
 -- the response to these bytes, which may be too many, by what is answered to those that aren't
 abbrev pub response_by : (List ℕ → Result Response Response) → List ℕ → Response
@@ -49,37 +45,24 @@ may_ask bound (kind.Root i) = nat_lt 0 i && nat_lt i bound
 may_ask bound (kind.Roots lo hi parts) = can_cut lo hi parts && nat_le hi bound
 may_ask bound (kind.Proof i) = nat_lt i bound
 
--- what no match of the case asks is refused as arguments are that name no command
-abbrev pub within_match : Kind → CaseData → Result (Unit {0}) Response
-within_match k c = if may_ask c.bound k then Ok tt else Err usage
+-- what doesn't pass is refused as arguments are that name no command
+abbrev pub or_usage : Bool → Result (Unit {0}) Response
+or_usage passed = if passed then Ok tt else Err usage
 
 -- the wire form of the plain answer of the run, by SHA-256
 abbrev pub answer_of_run : Kind → CaseData → State → Response
 answer_of_run k c start = record { answered = Done; text = (wire_form (plain sha256 (state_at start) c.bound k)).bytes }
 
--- of the case of bytes
-unfoldable pub answer_response : Kind → List ℕ → Result Response Response
-answer_response k bytes = do
-  c ← case_or_refusal bytes
-  asked ← within_match k c
-  start ← start_or_refusal Whole c
-  Ok (answer_of_run k c start)
+abbrev pub answer_response : Kind → List ℕ → Result Response Response
+answer_response k bytes = of_case (λ c. or_usage (may_ask c.bound k)) (answer_of_run k) bytes
 
--- steps that the run doesn't have, which are above the bound, are refused like a question that no match asks
+-- a run with this bound has these steps
 abbrev pub has_steps : ℕ → List ℕ → Bool
 has_steps bound steps = list_all (λ i. nat_le i bound) steps
-
-abbrev pub within_run : List ℕ → CaseData → Result (Unit {0}) Response
-within_run steps c = if has_steps c.bound steps then Ok tt else Err usage
 
 -- the 32 bytes of each root of the run after so many steps, by SHA-256, one behind another
 abbrev pub roots_of_steps : List ℕ → CaseData → State → Response
 roots_of_steps steps c start = record { answered = Done; text = flat_map (λ i. (plain_root sha256 (state_at start) c.bound i).0) steps }
 
--- of the case of bytes
-unfoldable pub roots_at_response : List ℕ → List ℕ → Result Response Response
-roots_at_response steps bytes = do
-  c ← case_or_refusal bytes
-  there ← within_run steps c
-  start ← start_or_refusal Whole c
-  Ok (roots_of_steps steps c start)
+abbrev pub roots_at_response : List ℕ → List ℕ → Result Response Response
+roots_at_response steps bytes = of_case (λ c. or_usage (has_steps c.bound steps)) (roots_of_steps steps) bytes

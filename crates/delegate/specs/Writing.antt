@@ -16,13 +16,9 @@ use Rattle.delegate.specs.Answered.{status_number, is_answer_to}
 
 -- THE BYTES OF A SOURCE, which may not be visible
 
--- bytes that a source may have had: its own if they are visible, and any if they aren't
-abbrev pub MayBe : Option (List ℕ) → List ℕ → Type 0
-MayBe left bytes = IfSome left (λ all. all ≡ bytes)
-
--- P of bytes that a source may have had
+-- P of bytes that a source may have had: of its own if they are visible, and of some if they aren't
 abbrev pub ForItsBytes : Option (List ℕ) → (List ℕ → Type 0) → Type 0
-ForItsBytes left P = (bytes : List ℕ) × MayBe left bytes × P bytes
+ForItsBytes left P = (bytes : List ℕ) × IfSome left (λ all. all ≡ bytes) × P bytes
 
 -- what was answered, and what the sink took, if its bytes are visible
 pub record IsWritten (response : Response) (result : Answered) (before now : Option (List ℕ)) : Type 0 where

@@ -58,7 +58,7 @@ pub fn carry_out<R: Threads + Wait + Sync>(
 ) -> Result<Response, Stop>
     requires { ArePositive request.options }
     ensures stands { Stands (λ response. response) result (carried_out request.command bytes.items) }
-    ensures in_range { IfOk result (λ response. DecidesInRange request.command bytes.items) }
+    ensures in_range { IfOk result (λ response. DecidesInRange (Some request.command) bytes.items) }
 {
     let options = options_of(request.options);
     match request.command {

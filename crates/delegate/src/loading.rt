@@ -1,6 +1,6 @@
 //! How every command on a case reads it and loads its image, and how tasks are read and loaded. An image that is given as assembly text is
 //! the flat one of the words that the text is assembled to. An `Err` is a refusal, with the response to it, or out of memory.
-ghost use Rattle.std.specs.Prelude.{◌≡◌, ◌+◌, ◌≤◌, Ok, map, length, IfOk};
+ghost use Rattle.std.specs.Prelude.{◌≡◌, ◌+◌, ◌<◌, ◌≤◌, Ok, map, length, IfOk};
 ghost use Rattle.std.specs.List.{All};
 ghost use Rattle.rd_base.specs.Results.{◌>>=◌ as and_then, Gives};
 ghost use Rattle.rv_step.specs.State.{state_of};
@@ -9,17 +9,19 @@ ghost use Rattle.case_reader.specs.Tasks.{tasks_data, AreFew};
 ghost use Rattle.image_reader.specs.Image.{loaded_of};
 ghost use Rattle.case_match.specs.TruthfulInCase.{IsInRange};
 ghost use Rattle.delegate.specs.AsmImage.{bytes_of as bytes_of_words, words_at, asm_words, asm_at};
-ghost use Rattle.delegate.specs.Loading.{case_or_refusal, tasks_or_refusal, image_by, image_or_refusal, start_or_refusal, starts_or_refusal};
-ghost use Rattle.delegate.specs.Standing.{Stands, IsFreshStart, AreAllInRange, AddsStarts};
+ghost use Rattle.delegate.specs.Loading.{case_or_refusal, tasks_or_refusal, image_by, start_or_refusal, cases_of_tasks, first_subject, loads_or_refusal};
+ghost use Rattle.delegate.specs.Standing.{Stands, IsFreshStart, IsReadyToPlay, loaded_data, task_number};
 
 use crate::faults;
 use crate::response::{Stop, Subject};
+use case_match::LoadedCase;
 use case_reader::{Case, CaseFault, Format, TaskFault, Tasks, read_case, read_tasks};
 use image_reader::{ImageFault, Loaded, load_elf, load_flat};
 use rd_base::Memory;
 use rv_step::{Machine, machines_are_valid};
 use rv_text::{AsmError, AsmFault, MAX_ASSEMBLY_BYTES, assemble};
 use std::alloc::Global;
+use std::slice;
 
 /// Why an assembly text is no image that is loaded.
 #[derive(Clone, Copy, Debug, PartialEq, Eq)]
@@ -152,7 +154,7 @@ fn asm_image(alloc: Global, subject: Subject, text: &[u8]) -> Result<Loaded, Sto
 
 /// The image of the case, loaded.
 fn image_in(alloc: Global, subject: Subject, case: &Case) -> Result<Loaded, Stop>
-    ensures { Stands loaded_of result (image_or_refusal subject (data_of case.now)) }
+    ensures { Stands loaded_of result (image_by subject (data_of case.now).format (data_of case.now).image) }
 {
     let file = case.image.as_slice();
     match case.format {
@@ -177,38 +179,61 @@ pub fn start_in(alloc: Global, subject: Subject, case: &Case) -> Result<Machine,
     Ok(start)
 }
 
-/// The machines in which the runs of the cases of tasks start, one for each, as of `start_in`. The first image that has a fault is
-/// refused, of its task.
-pub fn starts_in(alloc: Global, cases: &[Case]) -> Result<Vec<Machine>, Stop>
-    requires { length cases.now ≤ 8 }
-    ensures stands { Stands (λ starts. map state_of starts.items) result (starts_or_refusal 1 (map data_of cases.now)) }
-    ensures count { IfOk result (λ starts. length starts.items ≡ length cases.now) }
-    ensures fresh { IfOk result (λ starts. All IsFreshStart starts.items) }
-    ensures in_range { IfOk result (λ starts. AreAllInRange (map data_of cases.now) (map state_of starts.items)) }
+/// The cases of what was read, of one or of tasks, each with the machine in which its run starts, as of `start_in`. The first image that
+/// has a fault is refused, of its task if there are tasks.
+pub fn loads_in(alloc: Global, tasks: &Tasks) -> Result<Vec<LoadedCase>, Stop>
+    requires { AreFew tasks.now }
+    ensures stands { Stands (λ loads. map loaded_data loads.items) result
+        (loads_or_refusal (first_subject (tasks_data tasks.now)) (cases_of_tasks (tasks_data tasks.now))) }
+    ensures some { IfOk result (λ loads. 0 < length loads.items) }
+    ensures few { IfOk result (λ loads. length loads.items ≤ 8) }
+    ensures ready { IfOk result (λ loads. All IsReadyToPlay loads.items) }
 {
-    let mut starts = Vec::with_capacity(alloc, cases.len())?;
-    add_starts(alloc, 1, cases, &mut starts)?;
-    Ok(starts)
+    let cases = cases_of_tasks(tasks);
+    loads_from(alloc, first_subject(tasks), cases)
 }
 
-/// Puts the machines of tasks, the first of which has this number, behind others.
-fn add_starts(
+/// The cases of what was read.
+fn cases_of_tasks(tasks: &Tasks) -> &[Case]
+    requires { AreFew tasks.now }
+    ensures cases { map data_of result.now ≡ cases_of_tasks (tasks_data tasks.now) }
+    ensures some { 0 < length result.now }
+    ensures few { length result.now ≤ 8 }
+{
+    match tasks {
+        Tasks::One(case) => slice::from_ref(case),
+        Tasks::Many(cases) => cases.as_slice(),
+    }
+}
+
+/// The subject of the first case of what was read.
+pub fn first_subject(tasks: &Tasks) -> Subject
+    ensures subject { result ≡ first_subject (tasks_data tasks.now) }
+    ensures number { task_number result ≤ 1 }
+{
+    match tasks {
+        Tasks::One(_) => Subject::Whole,
+        Tasks::Many(_) => Subject::Task(1),
+    }
+}
+
+/// These cases, loaded. The first of them is of this subject.
+#[tactic(auto, unfolding(crate::specs::Loading::loads_or_refusal))]
+fn loads_from<'a>(
     alloc: Global,
-    number: u32,
-    cases: &[Case],
-    starts: &mut Vec<Machine>,
-) -> Result<(), Stop>
-    requires { number + length cases.now ≤ 9 }
-    ensures { AddsStarts number (map data_of cases.now) starts.old.items starts.new.items result }
+    subject: Subject,
+    cases: &'a [Case],
+) -> Result<Vec<LoadedCase<'a>>, Stop>
+    requires { task_number subject + length cases.now ≤ 9 }
+    ensures stands { Stands (λ loads. map loaded_data loads.items) result (loads_or_refusal subject (map data_of cases.now)) }
+    ensures count { IfOk result (λ loads. length loads.items ≡ length cases.now) }
+    ensures ready { IfOk result (λ loads. All IsReadyToPlay loads.items) }
 {
     let [case, later @ ..] = cases else {
-        return Ok(());
+        return Ok(Vec::new(alloc));
     };
-    match start_in(alloc, Subject::Task(number), case) {
-        Ok(start) => {
-            starts.push(start)?;
-            add_starts(alloc, number + 1, later, starts)
-        }
-        Err(stop) => Err(stop),
-    }
+    let start = start_in(alloc, subject, case)?;
+    let mut loads = loads_from(alloc, subject.next(), later)?;
+    loads.insert(0, LoadedCase { case, start })?;
+    Ok(loads)
 }

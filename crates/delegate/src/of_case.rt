@@ -13,7 +13,7 @@ ghost use Rattle.bisect_game.specs.Truth.{IsTrueAnswer};
 ghost use Rattle.case_match.specs.Match.{truth_of_case};
 ghost use Rattle.bisect_game.specs.Bisection.{can_cut};
 ghost use Rattle.plain_answers.specs.Plain as plain_answers;
-ghost use Rattle.delegate.specs.OfCase.{root_of_start, start_response, response_by, StartsValid, may_ask, within_match, answer_of_run, answer_response};
+ghost use Rattle.delegate.specs.OfCase.{root_of_start, start_response, response_by, StartsValid, may_ask, or_usage, answer_of_run, answer_response};
 ghost use Rattle.delegate.specs.Standing.{Stands, IsFreshStart, StartsValidIn};
 
 use crate::faults;
@@ -46,7 +46,7 @@ fn root_of(alloc: Global, start: &Machine) -> Result<Response, Memory>
 }
 
 /// Loads the case of the bytes, and answers with the root of the state in which its run starts.
-#[tactic(auto, unfolding(crate::specs::OfCase::start_response))]
+#[tactic(auto, unfolding(crate::specs::Loading::of_case))]
 fn start(alloc: Global, bytes: Vec<u8>) -> Result<Response, Stop>
     ensures stands { Stands (λ response. response) result (start_response bytes.items) }
     ensures valid { IfOk result (λ _. StartsValidIn bytes.items) }
@@ -106,11 +106,11 @@ fn may_ask(bound: u64, kind: Kind) -> bool
     }
 }
 
-/// Refuses what no match of the case asks.
-fn asked_in(alloc: Global, case: &Case, kind: Kind) -> Result<(), Stop>
-    ensures { Stands (λ asked. asked) result (within_match kind (data_of case.now)) }
+/// Refuses what doesn't pass.
+pub fn or_usage(alloc: Global, passed: bool) -> Result<(), Stop>
+    ensures { Stands (λ done. done) result (or_usage passed) }
 {
-    if may_ask(case.bound, kind) {
+    if passed {
         return Ok(());
     }
     Err(Stop::Refused(faults::usage(alloc)?))
@@ -148,12 +148,12 @@ fn answer_from(alloc: Global, case: &Case, start: Machine, kind: Kind) -> Result
 }
 
 /// Loads the case of the bytes, and answers with the plain answer of its run.
-#[tactic(auto, unfolding(crate::specs::OfCase::answer_response))]
+#[tactic(auto, unfolding(crate::specs::Loading::of_case))]
 fn answer(alloc: Global, kind: Kind, bytes: Vec<u8>) -> Result<Response, Stop>
     ensures { Stands (λ response. response) result (answer_response kind bytes.items) }
 {
     let case = case_in(alloc, bytes)?;
-    asked_in(alloc, &case, kind)?;
+    or_usage(alloc, may_ask(case.bound, kind))?;
     let machine = start_in(alloc, Subject::Whole, &case)?;
     Ok(answer_from(alloc, &case, machine, kind)?)
 }

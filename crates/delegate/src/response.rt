@@ -1,10 +1,11 @@
 //! What the program answers: how it ended, what is written, and why a command isn't carried out.
-ghost use Rattle.std.specs.Prelude.{◌≡◌, Some, IfOk, string_bytes};
+ghost use Rattle.std.specs.Prelude.{◌≡◌, ◌<◌, ◌≤◌, ◌+◌, Some, IfOk, string_bytes};
 ghost use Rattle.delegate.specs.declared.response.Halt.TheVariants.{Memory as halted};
 ghost use Rattle.delegate.specs.declared.response.Stop.TheVariants.{Memory as stopped};
 ghost use Rattle.delegate.specs.Answered.{status_number, graver};
 ghost use Rattle.delegate.specs.Refusal.{subject_text};
-ghost use Rattle.delegate.specs.Standing.{IsEitherWay};
+ghost use Rattle.delegate.specs.Loading.{next_subject};
+ghost use Rattle.delegate.specs.Standing.{IsEitherWay, task_number};
 
 use rd_base::{Bytes, Memory};
 use std::alloc::{AllocError, AllocFailed};
@@ -79,6 +80,20 @@ pub enum Subject {
     Whole,
     /// The task of this number, counted from 1.
     Task(u32),
+}
+
+impl Subject {
+    /// The subject of the case behind this one: of tasks, the next. There are at most 8.
+    pub(crate) fn next(self) -> Subject
+        requires { task_number self < 9 }
+        ensures next { result ≡ next_subject self }
+        ensures number { task_number result ≤ task_number self + 1 }
+    {
+        match self {
+            Subject::Whole => Subject::Whole,
+            Subject::Task(number) => Subject::Task(number + 1),
+        }
+    }
 }
 
 /// As a refusal writes it: nothing, or `task T` and a space.

@@ -8,11 +8,12 @@ ghost use Rattle.sha2.specs.Sha256.{sha256};
 ghost use Rattle.case_reader.specs.Case.{data_of};
 ghost use Rattle.plain_answers.specs.Plain.{plain_root};
 ghost use Rattle.delegate.specs.declared.response.Answered.TheVariants as answered;
-ghost use Rattle.delegate.specs.OfCase.{response_by, has_steps, within_run, roots_of_steps, roots_at_response};
+ghost use Rattle.delegate.specs.OfCase.{response_by, has_steps, roots_of_steps, roots_at_response};
 ghost use Rattle.delegate.specs.Standing.{Stands, IsAscending};
 
 use crate::faults;
 use crate::loading::{case_in, start_in};
+use crate::of_case::or_usage;
 use crate::program::MAX_CASE_BYTES;
 use crate::response::{Answered, Response, Stop, Subject, either_way};
 use case_reader::Case;
@@ -32,16 +33,6 @@ fn has_steps(bound: u64, steps: &[u64]) -> bool
         }
     }
     true
-}
-
-/// Refuses steps that the run of the case doesn't have.
-fn steps_in(alloc: Global, case: &Case, steps: &[u64]) -> Result<(), Stop>
-    ensures { Stands (λ there. there) result (within_run steps.now (data_of case.now)) }
-{
-    if has_steps(case.bound, steps) {
-        return Ok(());
-    }
-    Err(Stop::Refused(faults::usage(alloc)?))
 }
 
 /// The root that stands beside a step, which is one of the steps in ascending order.
@@ -106,12 +97,12 @@ fn roots_from(alloc: Global, case: &Case, start: Machine, steps: &[u64]) -> Resu
 }
 
 /// Loads the case of the bytes, and answers with the roots of its run after so many steps each.
-#[tactic(auto, unfolding(crate::specs::OfCase::roots_at_response))]
+#[tactic(auto, unfolding(crate::specs::Loading::of_case))]
 fn roots(alloc: Global, steps: &[u64], bytes: Vec<u8>) -> Result<Response, Stop>
     ensures { Stands (λ response. response) result (roots_at_response steps.now bytes.items) }
 {
     let case = case_in(alloc, bytes)?;
-    steps_in(alloc, &case, steps)?;
+    or_usage(alloc, has_steps(case.bound, steps))?;
     let machine = start_in(alloc, Subject::Whole, &case)?;
     Ok(roots_from(alloc, &case, machine, steps)?)
 }

@@ -150,7 +150,7 @@ fn accepted_prover<R: Threads + Wait + Sync>(
     };
     let ends = ended_tasks(rt, alloc, Sha256, loads, options, gate)?;
     match ends.first() {
-        Some(end) => match end.verdict {
+        Some(ended) => match ended.end.verdict {
             Verdict::Accept(p) => Ok(Some(p)),
             _ => Ok(None),
         },

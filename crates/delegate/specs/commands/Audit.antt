@@ -31,10 +31,6 @@ text_fault_text Memory = []
 abbrev pub text_refusal : TextFault → Response
 text_refusal fault = record { answered = AuditRefused; text = text_fault_text fault }
 
--- the full text of bytes
-abbrev pub full_text_in : List ℕ → Result FullText Response
-full_text_in bytes = or_refusal text_refusal (read_text bytes)
-
 -- the number of a cause
 abbrev pub cause_number : Cause → ℕ
 cause_number NotAsked = 1
@@ -54,5 +50,5 @@ ruling_of_text text = machine_ruling (digest_of text.head.digest) text.head.vers
 
 unfoldable pub audit_response : List ℕ → Result Response Response
 audit_response bytes = do
-  text ← full_text_in bytes
+  text ← or_refusal text_refusal (read_text bytes)
   Ok (response_to_finding text.stated (audited (ruling_of_text text) text))

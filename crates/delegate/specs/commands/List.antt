@@ -23,17 +23,14 @@ word_in_file bytes place = from_le_bytes w32 (slice_index bytes place ∷ slice_
 abbrev pub words_in_file : List ℕ → List ℕ
 words_in_file bytes = map (λ k. word_in_file bytes (4 * k)) (range_with_len 0 (div_ceil (length bytes) 4))
 
--- a format that has no listing
-abbrev pub format_refusal : Response
-format_refusal = case_refusal Whole (OutOfRange key.Format)
-
--- the words of an image, which breaks no rule: of a flat file its own, and of an assembly text those that it is assembled to
+-- the words of an image, which breaks no rule: of a flat file its own, and of an assembly text those that it is assembled to. The other format
+-- has no listing.
 abbrev pub words_by : Format → List ℕ → Result (List ℕ) Response
 words_by Flat file = do
   image ← image_by Whole Flat file
   Ok (words_in_file file)
 words_by Asm text = or_refusal (asm_refusal Whole) (asm_words text >>= (λ words. words_at words >>= (λ image. Ok words)))
-words_by Elf file = Err format_refusal
+words_by Elf file = Err (case_refusal Whole (OutOfRange key.Format))
 
 unfoldable pub list_response : List ℕ → Result Response Response
 list_response bytes = do

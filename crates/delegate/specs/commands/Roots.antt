@@ -1,7 +1,6 @@
 -- To believe. `roots`: the root of each state of the case that is read, from the first to that at its bound, which is at most
 -- 4,096.
 use Rattle.std.specs.Prelude.{ℕ, ◌+◌, List, nat_lt, Result, Ok, Err, if◌then◌else◌}
-use Rattle.rd_base.specs.Results.{◌>>=◌}
 use Rattle.rv_step.specs.State.{State}
 use Rattle.rv_step.specs.Step.{state_at}
 use Rattle.segment_replay.specs.Roots.{root_of_state}
@@ -9,9 +8,8 @@ use Rattle.case_reader.specs.Case.{CaseData}
 use Rattle.digest_core.specs.declared.name.DigestName.TheVariants.{Sha256}
 use Rattle.transcript_text.specs.Roots.{root_lines}
 use Rattle.digest_core.specs.Name.{digest_of}
-use Rattle.delegate.specs.Loading.{case_or_refusal, start_or_refusal}
+use Rattle.delegate.specs.Loading.{of_case}
 use Rattle.delegate.specs.Refusal.{bound_refusal}
-use Rattle.delegate.specs.declared.response.Subject.TheVariants.{Whole}
 use Rattle.delegate.specs.declared.response.Response.{Response}
 use Rattle.delegate.specs.declared.response.Answered.TheVariants.{Done}
 
@@ -23,9 +21,5 @@ within_bound c = if nat_lt 4096 c.bound then Err bound_refusal else Ok tt
 abbrev pub roots_of_run : (List ℕ → List ℕ) → CaseData → State → Response
 roots_of_run digest c start = record { answered = Done; text = root_lines (λ i. root_of_state digest (state_at start i)) (c.bound + 1) }
 
-unfoldable pub roots_response : List ℕ → Result Response Response
-roots_response bytes = do
-  c ← case_or_refusal bytes
-  few ← within_bound c
-  start ← start_or_refusal Whole c
-  Ok (roots_of_run (digest_of Sha256) c start)
+abbrev pub roots_response : List ℕ → Result Response Response
+roots_response bytes = of_case within_bound (roots_of_run (digest_of Sha256)) bytes

@@ -4,7 +4,8 @@ ghost use Rattle.transcript_text.specs.Lines.{line_of_stated};
 ghost use Rattle.transcript_text.specs.Report.{line_text};
 ghost use Rattle.transcript_text.specs.reader.ReadText.{read_text};
 ghost use Rattle.audit.specs.LineByLine.{audited};
-ghost use Rattle.delegate.specs.commands.Audit.{text_refusal, full_text_in, cause_number, response_to_finding, ruling_of_text, audit_response};
+ghost use Rattle.delegate.specs.Refusal.{or_refusal};
+ghost use Rattle.delegate.specs.commands.Audit.{text_refusal, cause_number, response_to_finding, ruling_of_text, audit_response};
 ghost use Rattle.delegate.specs.Standing.{Stands};
 
 use crate::response::{Answered, Response, Stop, text_response};
@@ -31,7 +32,7 @@ fn text_refusal(alloc: Global, fault: TextFault) -> Result<Response, AllocError>
 
 /// The full text of the bytes.
 fn full_text_in(alloc: Global, bytes: &[u8]) -> Result<FullText, Stop>
-    ensures stands { Stands (λ text. text) result (full_text_in bytes.now) }
+    ensures stands { Stands (λ text. text) result (or_refusal text_refusal (read_text bytes.now)) }
     ensures read { IfOk result (λ text. read_text bytes.now ≡ Ok text) }
 {
     match read_full(alloc, bytes) {

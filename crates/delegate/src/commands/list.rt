@@ -1,6 +1,10 @@
 //! `list`: to write the listing of a case's image.
 ghost use Rattle.std.specs.Prelude.{◌≡◌, ◌<◌, length, slice_index, IfOk};
-ghost use Rattle.delegate.specs.commands.List.{word_in_file, words_in_file, format_refusal, words_by, list_response};
+ghost use Rattle.case_reader.specs.declared.fault.CaseFault.TheVariants.{OutOfRange};
+ghost use Rattle.case_reader.specs.declared.fault.Key.TheVariants as key;
+ghost use Rattle.delegate.specs.Refusal.{case_refusal};
+ghost use Rattle.delegate.specs.declared.response.Subject.TheVariants.{Whole};
+ghost use Rattle.delegate.specs.commands.List.{word_in_file, words_in_file, words_by, list_response};
 ghost use Rattle.delegate.specs.Standing.{Stands};
 
 use crate::faults;
@@ -65,7 +69,7 @@ fn words_of_asm(alloc: Global, text: &[u8]) -> Result<Vec<u32>, Stop>
 
 /// The response to a format that has no listing.
 fn format_refusal(alloc: Global) -> Result<Response, AllocError>
-    ensures { IfOk result (λ response. response ≡ format_refusal) }
+    ensures { IfOk result (λ response. response ≡ case_refusal Whole (OutOfRange key.Format)) }
 {
     faults::case_refusal(alloc, Subject::Whole, CaseFault::OutOfRange(Key::Format))
 }

@@ -22,7 +22,7 @@ use std::thread::Threads;
 use transcript_text::{add_root_line, answer_line};
 
 /// Runs the program of the case of the bytes, and answers with its status and output at the bound.
-#[tactic(auto, unfolding(crate::specs::commands::Run::run_response))]
+#[tactic(auto, unfolding(crate::specs::Loading::of_case))]
 pub fn run(alloc: Global, bytes: Vec<u8>) -> Result<Response, Stop>
     ensures { Stands (λ response. response) result (run_response bytes.items) }
 {
@@ -93,7 +93,7 @@ where
 }
 
 /// Runs the program of the case of the bytes, and answers with the root of each of its states.
-#[tactic(auto, unfolding(crate::specs::commands::Roots::roots_response))]
+#[tactic(auto, unfolding(crate::specs::Loading::of_case))]
 pub fn roots<R: Threads + Sync>(rt: &R, alloc: Global, bytes: Vec<u8>) -> Result<Response, Stop>
     ensures { Stands (λ response. response) result (roots_response bytes.items) }
 {

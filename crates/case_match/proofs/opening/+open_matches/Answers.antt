@@ -1,4 +1,5 @@
-use Rattle.std.proofs.Common.{rules, All, map, [], ◌∷◌, ◌∙◌, sym, ap, subst}
+use Rattle.std.proofs.Common.{rules, All, map, [], ◌∷◌, ◌++◌, ◌∙◌, sym, ap, subst}
+use Rattle.std.proofs.lemmas.List.{map-append}
 use Rattle.rv_step.specs.State.{state_of}
 use Rattle.case_reader.specs.Case.{data_of}
 use Rattle.case_match.specs.declared.opening.LoadedCase.{LoadedCase}
@@ -16,6 +17,13 @@ pub open_match-requires-clause-fresh : goal.open_match-requires-clause-fresh
 open_match-requires-clause-fresh g t c =
     last-all (λ (l : LoadedCase). IsFresh g.D.Digester.digest_of l.start) c.pop.new.self.items c.in-Some.last
     (subst (All (λ (l : LoadedCase). IsFresh g.D.Digester.digest_of l.start)) c.in-Some.ensures.items c.requires.fresh)
+
+pub returns-clause-cases : goal.returns-clause-cases
+returns-clause-cases g t c =
+    c.in_ok-push-2.ensures.items
+    ∙ (ap (λ l. l ++ c.in-Some.last.case ∷ []) c.in_ok-books.ensures.cases
+    ∙ (sym (map-append (λ (l : LoadedCase). l.case) c.pop.new.self.items (c.in-Some.last ∷ []))
+    ∙ ap (map (λ (l : LoadedCase). l.case)) (sym c.in-Some.ensures.items)))
 
 pub returns-clause-openings : goal.returns-clause-openings
 returns-clause-openings g t c =

@@ -1,4 +1,4 @@
-use Rattle.std.proofs.Common.{◌≡◌, ◌≢◌, sym, subst}
+use Rattle.std.proofs.Common.{◌≢◌, sym, subst}
 use Rattle.std.proofs.lemmas.Result.{IfOk-weaker}
 use Rattle.delegate.specs.declared.response.Answered.TheVariants as answered
 use Rattle.delegate.specs.declared.response.Response.{Response}

@@ -1,4 +1,4 @@
-use Rattle.std.proofs.Common.{◌≡◌, ℕ, List, length, IsPermutation, All, Contains, subst, sym, ap, ◌∙◌}
+use Rattle.std.proofs.Common.{ℕ, List, length, IsPermutation, All, Contains, subst, sym, ap, ◌∙◌}
 use Rattle.std.proofs.lemmas.List.{length-map}
 use Rattle.sha2.specs.Sha256.{sha256}
 use Rattle.rv_step.specs.State.{state_of}

@@ -2,4 +2,4 @@ use Rattle.std.proofs.Common.{length}
 use Rattle.delegate.proofs.commands.judge.+add_texts.Given as goal
 
 abbrev pub decreases-add_texts : goal.decreases-add_texts
-decreases-add_texts l = length l.cases.now
+decreases-add_texts l = length l.ends.now

@@ -1,5 +1,0 @@
-use Rattle.std.proofs.Common.{length}
-use Rattle.delegate.proofs.loading.+add_starts.Given as goal
-
-abbrev pub decreases-add_starts : goal.decreases-add_starts
-decreases-add_starts l = length l.cases.now
