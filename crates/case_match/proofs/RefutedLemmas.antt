@@ -347,13 +347,13 @@ module _ (digest : List ℕ → List ℕ) (laws : TamperLaws digest) where
       let fair : IsFair rules.ruling = laws.fair start.version in
       let but = true-but c start range t fits in
       All-cons (IsTamperRefuted digest c start t p q) d ds
-        (record {
-          as_second = λ first second.
-              as-step (Out false true) (HasCollided rules.ruling (truth_of_case digest c start) (run_in_game digest c start t) d) (refuted-second rules (truth_of_case digest c start) (run_in_game digest c start t) fair run (IsRefutingStep digest c start t) d but (a.0 first second two.0));
-          as_first = λ first second.
-              as-step (Out true false) (HasCollided rules.ruling (run_in_game digest c start t) (truth_of_case digest c start) d) (refuted-first rules (truth_of_case digest c start) (run_in_game digest c start t) fair run (IsRefutingStep digest c start t) d but (b.0 first second two.0));
-        })
-        (all-refuted c start range t fits run p q ds two.1 a.1 b.1)
+      (record {
+        as_second = λ first second.
+            as-step (Out false true) (HasCollided rules.ruling (truth_of_case digest c start) (run_in_game digest c start t) d) (refuted-second rules (truth_of_case digest c start) (run_in_game digest c start t) fair run (IsRefutingStep digest c start t) d but (a.0 first second two.0));
+        as_first = λ first second.
+            as-step (Out true false) (HasCollided rules.ruling (run_in_game digest c start t) (truth_of_case digest c start) d) (refuted-first rules (truth_of_case digest c start) (run_in_game digest c start t) fair run (IsRefutingStep digest c start t) d but (b.0 first second two.0));
+      })
+      (all-refuted c start range t fits run p q ds two.1 a.1 b.1)
     where
       as-step : (out : Close) (Collided : Type 0) → EndsAt (IsRefutingStep digest c start t) out d ⊎ Collided → IsRefutedByStep digest c start t out d ⊎ Collided
       as-step out Collided (inl e) = inl (record { at = e.at; step = e.step; out_ = e.out_ })
