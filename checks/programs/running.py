@@ -204,6 +204,9 @@ class Compiler:
         ]  # fmt: skip
         # The reason is on standard error, which is read as output.
         done = ended(["sh", "-c", 'exec "$@" 2>&1', "sh", *words], seconds=seconds, folder=self.folder)
+        if b"relocation truncated to fit: R_RISCV_GPREL" in done.written:
+            # The linker shortened an address that is then too far from `gp`. It is told not to shorten any.
+            done = ended(["sh", "-c", 'exec "$@" 2>&1', "sh", *words, "-Wl,--no-relax"], seconds=seconds, folder=self.folder)
         if done.why:
             return done.why
         if done.status == 0:
