@@ -26,7 +26,7 @@ const ABSENT: Qid = Qid {
 };
 
 /// How a post was answered, and how often its prover has passed on its open question then.
-#[derive(Clone, Copy, PartialEq, Eq)]
+#[derive(Clone, Copy, Debug, PartialEq, Eq)]
 enum Replied {
     Taken(u32),
     Faulty(u32),
@@ -59,32 +59,93 @@ enum Turn {
     Gives(Player, Kind),
 }
 
-/// Posts in a match over 8 steps with a patience of 1: the prover, the number under which it posts, what it posts, and how it is answered.
-/// Prover 1 claims truly and then gives a proof for a root; prover 2 lies and then passes. A stale post of each kind carries the open
-/// question and changes nothing: the claim's number again, a dispute that isn't there, a later round, and a post of a prover without a
-/// question.
-const POSTS: [(u32, Qid, Turn, Replied); 11] = [
-    (1, FIRST, Turn::Pass, Replied::Stale(Some(CLAIM), 0)),
-    (1, CLAIM, Turn::Pass, Replied::Taken(1)),
-    (
-        1,
-        CLAIM,
-        Turn::Gives(HONEST, Kind::Claim),
-        Replied::Taken(0),
-    ),
-    (1, CLAIM, Turn::Pass, Replied::Stale(None, 0)),
-    (2, CLAIM, Turn::Gives(LIAR, Kind::Claim), Replied::Taken(0)),
-    (1, CLAIM, Turn::Pass, Replied::Stale(Some(FIRST), 0)),
-    (1, LATER, Turn::Pass, Replied::Stale(Some(FIRST), 0)),
-    (1, ABSENT, Turn::Pass, Replied::Stale(Some(FIRST), 0)),
-    (
-        1,
-        FIRST,
-        Turn::Gives(HONEST, Kind::Proof(0)),
-        Replied::Faulty(0),
-    ),
-    (2, FIRST, Turn::Pass, Replied::Taken(1)),
-    (2, FIRST, Turn::Pass, Replied::Spent(0)),
+/// A post, and how it is answered.
+#[derive(Clone, Copy)]
+struct Row {
+    prover: u32,
+    /// The number under which it posts.
+    qid: Qid,
+    turn: Turn,
+    replied: Replied,
+}
+
+/// How the post of a place is answered.
+#[derive(Clone, Copy, Debug, PartialEq, Eq)]
+struct Answered {
+    place: usize,
+    replied: Replied,
+}
+
+/// Posts in a match over 8 steps with a patience of 1. Prover 1 claims truly and then gives a proof for a root; prover 2 lies and then
+/// passes. A stale post of each kind carries the open question and changes nothing: the claim's number again, a dispute that isn't there, a
+/// later round, and a post of a prover without a question.
+const POSTS: [Row; 11] = [
+    Row {
+        prover: 1,
+        qid: FIRST,
+        turn: Turn::Pass,
+        replied: Replied::Stale(Some(CLAIM), 0),
+    },
+    Row {
+        prover: 1,
+        qid: CLAIM,
+        turn: Turn::Pass,
+        replied: Replied::Taken(1),
+    },
+    Row {
+        prover: 1,
+        qid: CLAIM,
+        turn: Turn::Gives(HONEST, Kind::Claim),
+        replied: Replied::Taken(0),
+    },
+    Row {
+        prover: 1,
+        qid: CLAIM,
+        turn: Turn::Pass,
+        replied: Replied::Stale(None, 0),
+    },
+    Row {
+        prover: 2,
+        qid: CLAIM,
+        turn: Turn::Gives(LIAR, Kind::Claim),
+        replied: Replied::Taken(0),
+    },
+    Row {
+        prover: 1,
+        qid: CLAIM,
+        turn: Turn::Pass,
+        replied: Replied::Stale(Some(FIRST), 0),
+    },
+    Row {
+        prover: 1,
+        qid: LATER,
+        turn: Turn::Pass,
+        replied: Replied::Stale(Some(FIRST), 0),
+    },
+    Row {
+        prover: 1,
+        qid: ABSENT,
+        turn: Turn::Pass,
+        replied: Replied::Stale(Some(FIRST), 0),
+    },
+    Row {
+        prover: 1,
+        qid: FIRST,
+        turn: Turn::Gives(HONEST, Kind::Proof(0)),
+        replied: Replied::Faulty(0),
+    },
+    Row {
+        prover: 2,
+        qid: FIRST,
+        turn: Turn::Pass,
+        replied: Replied::Taken(1),
+    },
+    Row {
+        prover: 2,
+        qid: FIRST,
+        turn: Turn::Pass,
+        replied: Replied::Spent(0),
+    },
 ];
 
 /// How a post of this turn is answered.
@@ -104,18 +165,19 @@ fn turned(
     }
 }
 
-/// The first post that is answered otherwise.
-fn first_other(alloc: Global, game: &mut Match<ToyJudge>) -> Result<Option<usize>, Memory> {
-    for (place, (p, qid, turn, want)) in POSTS.iter().enumerate() {
-        if turned(alloc, game, *p, *qid, *turn)? != *want {
-            return Ok(Some(place));
+/// The first post that is answered otherwise, and how.
+fn first_other(alloc: Global, game: &mut Match<ToyJudge>) -> Result<Option<Answered>, Memory> {
+    for (place, post) in POSTS.iter().enumerate() {
+        let replied = turned(alloc, game, post.prover, post.qid, post.turn)?;
+        if replied != post.replied {
+            return Ok(Some(Answered { place, replied }));
         }
     }
     Ok(None)
 }
 
 /// The first post in a match that is answered otherwise, and whether nobody is left behind them.
-fn posted(alloc: Global, mut game: Match<ToyJudge>) -> Result<(Option<usize>, bool), Memory> {
+fn posted(alloc: Global, mut game: Match<ToyJudge>) -> Result<(Option<Answered>, bool), Memory> {
     match first_other(alloc, &mut game) {
         Ok(place) => Ok((place, matches!(game.verdict(), Some(Verdict::NoneLeft)))),
         Err(memory) => Err(memory),

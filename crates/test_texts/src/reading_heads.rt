@@ -2,17 +2,15 @@
 use transcript_text::TextFault;
 
 /// The numbers of a head.
-pub const NUMBERS: &[u8] = b"refereed provers 2 bound 8 patience 0 version 1 fan 2 digest sha256 ";
+pub const NUMBERS: &str = "refereed provers 2 bound 8 patience 0 version 1 fan 2 digest sha256 ";
 
 /// Its root, but for the last two of its digits, and a whole one with its line feed.
-pub const CUT_START: &[u8] =
-    b"start 00010203040506070809101112131415161718192021222324252627282930";
+pub const CUT_START: &str = "start 00010203040506070809101112131415161718192021222324252627282930";
 
-pub const START: &[u8] =
-    b"start 0001020304050607080910111213141516171819202122232425262728293031\n";
+pub const START: &str = "start 0001020304050607080910111213141516171819202122232425262728293031\n";
 
 /// What is read of a text: how many moves, or the fault.
-#[derive(Clone, Copy, PartialEq, Eq)]
+#[derive(Clone, Copy, Debug, PartialEq, Eq)]
 pub enum Told {
     Moves(usize),
     Fault(TextFault),
@@ -28,9 +26,9 @@ pub const HEAD_OUT_OF_RANGE: Told = Told::Fault(TextFault::OutOfRange(1));
 pub const BAD_SECOND: Told = Told::Fault(TextFault::BadLine(2));
 
 /// Pieces of a text, one behind another, and what is read of it.
-#[derive(Clone, Copy)]
+#[derive(Clone, Copy, Debug)]
 pub struct Row {
-    pub pieces: &'static [&'static [u8]],
+    pub pieces: &'static [&'static str],
     pub told: Told,
 }
 
@@ -38,42 +36,42 @@ pub struct Row {
 const HEADS_IN_RANGE: [Row; 6] = [
     Row {
         pieces: &[
-            b"refereed provers 1 bound 1 patience 0 version 1 fan 2 digest sha256 ",
+            "refereed provers 1 bound 1 patience 0 version 1 fan 2 digest sha256 ",
             START,
         ],
         told: NO_MOVES,
     },
     Row {
         pieces: &[
-            b"refereed provers 16 bound 4294967295 patience 100 version 1 fan 2 digest sha256 ",
+            "refereed provers 16 bound 4294967295 patience 100 version 1 fan 2 digest sha256 ",
             START,
         ],
         told: NO_MOVES,
     },
     Row {
         pieces: &[
-            b"refereed provers 2 bound 8 patience 0 version 1 fan 16 digest sha256 ",
+            "refereed provers 2 bound 8 patience 0 version 1 fan 16 digest sha256 ",
             START,
         ],
         told: NO_MOVES,
     },
     Row {
         pieces: &[
-            b"refereed provers 2 bound 8 patience 0 version 2 fan 2 digest sha256 ",
+            "refereed provers 2 bound 8 patience 0 version 2 fan 2 digest sha256 ",
             START,
         ],
         told: NO_MOVES,
     },
     Row {
         pieces: &[
-            b"refereed provers 2 bound 8 patience 0 version 3 fan 2 digest sha256 ",
+            "refereed provers 2 bound 8 patience 0 version 3 fan 2 digest sha256 ",
             START,
         ],
         told: NO_MOVES,
     },
     Row {
         pieces: &[
-            b"refereed provers 2 bound 8 patience 0 version 1 fan 2 digest weak8 ",
+            "refereed provers 2 bound 8 patience 0 version 1 fan 2 digest weak8 ",
             START,
         ],
         told: NO_MOVES,
@@ -88,42 +86,42 @@ pub fn heads_in_range() -> &'static [Row] {
 const HEADS_BEFORE_NO_FORM: [Row; 6] = [
     Row {
         pieces: &[
-            b"refereed provers 1 bound 1 patience 0 version 1 fan 2 digest sha256 ",
+            "refereed provers 1 bound 1 patience 0 version 1 fan 2 digest sha256 ",
             START,
         ],
         told: BAD_SECOND,
     },
     Row {
         pieces: &[
-            b"refereed provers 16 bound 4294967295 patience 100 version 1 fan 2 digest sha256 ",
+            "refereed provers 16 bound 4294967295 patience 100 version 1 fan 2 digest sha256 ",
             START,
         ],
         told: BAD_SECOND,
     },
     Row {
         pieces: &[
-            b"refereed provers 2 bound 8 patience 0 version 1 fan 16 digest sha256 ",
+            "refereed provers 2 bound 8 patience 0 version 1 fan 16 digest sha256 ",
             START,
         ],
         told: BAD_SECOND,
     },
     Row {
         pieces: &[
-            b"refereed provers 2 bound 8 patience 0 version 2 fan 2 digest sha256 ",
+            "refereed provers 2 bound 8 patience 0 version 2 fan 2 digest sha256 ",
             START,
         ],
         told: BAD_SECOND,
     },
     Row {
         pieces: &[
-            b"refereed provers 2 bound 8 patience 0 version 3 fan 2 digest sha256 ",
+            "refereed provers 2 bound 8 patience 0 version 3 fan 2 digest sha256 ",
             START,
         ],
         told: BAD_SECOND,
     },
     Row {
         pieces: &[
-            b"refereed provers 2 bound 8 patience 0 version 1 fan 2 digest weak8 ",
+            "refereed provers 2 bound 8 patience 0 version 1 fan 2 digest weak8 ",
             START,
         ],
         told: BAD_SECOND,
@@ -139,77 +137,77 @@ pub fn heads_before_no_form() -> &'static [Row] {
 const HEADS_OUT_OF_RANGE: [Row; 11] = [
     Row {
         pieces: &[
-            b"refereed provers 0 bound 8 patience 0 version 1 fan 2 digest sha256 ",
+            "refereed provers 0 bound 8 patience 0 version 1 fan 2 digest sha256 ",
             START,
         ],
         told: HEAD_OUT_OF_RANGE,
     },
     Row {
         pieces: &[
-            b"refereed provers 17 bound 8 patience 0 version 1 fan 2 digest sha256 ",
+            "refereed provers 17 bound 8 patience 0 version 1 fan 2 digest sha256 ",
             START,
         ],
         told: HEAD_OUT_OF_RANGE,
     },
     Row {
         pieces: &[
-            b"refereed provers 2 bound 0 patience 0 version 1 fan 2 digest sha256 ",
+            "refereed provers 2 bound 0 patience 0 version 1 fan 2 digest sha256 ",
             START,
         ],
         told: HEAD_OUT_OF_RANGE,
     },
     Row {
         pieces: &[
-            b"refereed provers 2 bound 4294967296 patience 0 version 1 fan 2 digest sha256 ",
+            "refereed provers 2 bound 4294967296 patience 0 version 1 fan 2 digest sha256 ",
             START,
         ],
         told: HEAD_OUT_OF_RANGE,
     },
     Row {
         pieces: &[
-            b"refereed provers 2 bound 4294967304 patience 0 version 1 fan 2 digest sha256 ",
+            "refereed provers 2 bound 4294967304 patience 0 version 1 fan 2 digest sha256 ",
             START,
         ],
         told: HEAD_OUT_OF_RANGE,
     },
     Row {
         pieces: &[
-            b"refereed provers 2 bound 18446744073709551624 patience 0 version 1 fan 2 digest sha256 ",
+            "refereed provers 2 bound 18446744073709551624 patience 0 version 1 fan 2 digest sha256 ",
             START,
         ],
         told: HEAD_OUT_OF_RANGE,
     },
     Row {
         pieces: &[
-            b"refereed provers 2 bound 8 patience 101 version 1 fan 2 digest sha256 ",
+            "refereed provers 2 bound 8 patience 101 version 1 fan 2 digest sha256 ",
             START,
         ],
         told: HEAD_OUT_OF_RANGE,
     },
     Row {
         pieces: &[
-            b"refereed provers 2 bound 8 patience 0 version 0 fan 2 digest sha256 ",
+            "refereed provers 2 bound 8 patience 0 version 0 fan 2 digest sha256 ",
             START,
         ],
         told: HEAD_OUT_OF_RANGE,
     },
     Row {
         pieces: &[
-            b"refereed provers 2 bound 8 patience 0 version 4 fan 2 digest sha256 ",
+            "refereed provers 2 bound 8 patience 0 version 4 fan 2 digest sha256 ",
             START,
         ],
         told: HEAD_OUT_OF_RANGE,
     },
     Row {
         pieces: &[
-            b"refereed provers 2 bound 8 patience 0 version 1 fan 1 digest sha256 ",
+            "refereed provers 2 bound 8 patience 0 version 1 fan 1 digest sha256 ",
             START,
         ],
         told: HEAD_OUT_OF_RANGE,
     },
     Row {
         pieces: &[
-            b"refereed provers 2 bound 8 patience 0 version 1 fan 17 digest sha256 ",
+            "refereed provers 2 bound 8 patience 0 version 1 fan 17 digest sha256 ",
             START,
         ],
         told: HEAD_OUT_OF_RANGE,
@@ -225,91 +223,91 @@ pub fn heads_out_of_range() -> &'static [Row] {
 const BAD_HEADS: [Row; 13] = [
     Row {
         pieces: &[
-            b"refereed provers 2 bound 8 patience 0 version 1 fan 2 digest WEAK8 ",
+            "refereed provers 2 bound 8 patience 0 version 1 fan 2 digest WEAK8 ",
             START,
         ],
         told: BAD_HEAD,
     },
     Row {
         pieces: &[
-            b"refereed provers 2 bound 8 patience 0 version 1 fan 2 digest weak ",
+            "refereed provers 2 bound 8 patience 0 version 1 fan 2 digest weak ",
             START,
         ],
         told: BAD_HEAD,
     },
     Row {
         pieces: &[
-            b"refereed provers 2 bound 8 patience 0 version 1 fan 2 digest sha2567 ",
+            "refereed provers 2 bound 8 patience 0 version 1 fan 2 digest sha2567 ",
             START,
         ],
         told: BAD_HEAD,
     },
     Row {
         pieces: &[
-            b"refereed provers 17 bound 8 patience 0 version 1 fan 2 digest Sha256 ",
+            "refereed provers 17 bound 8 patience 0 version 1 fan 2 digest Sha256 ",
             START,
         ],
         told: BAD_HEAD,
     },
     Row {
         pieces: &[
-            b"refereed provers 02 bound 8 patience 0 version 1 fan 2 digest sha256 ",
+            "refereed provers 02 bound 8 patience 0 version 1 fan 2 digest sha256 ",
             START,
         ],
         told: BAD_HEAD,
     },
     Row {
         pieces: &[
-            b"refereed provers +2 bound 8 patience 0 version 1 fan 2 digest sha256 ",
+            "refereed provers +2 bound 8 patience 0 version 1 fan 2 digest sha256 ",
             START,
         ],
         told: BAD_HEAD,
     },
     Row {
         pieces: &[
-            b"refereed provers 2 bound  8 patience 0 version 1 fan 2 digest sha256 ",
+            "refereed provers 2 bound  8 patience 0 version 1 fan 2 digest sha256 ",
             START,
         ],
         told: BAD_HEAD,
     },
     Row {
         pieces: &[
-            b"refereed provers 2\tbound 8 patience 0 version 1 fan 2 digest sha256 ",
+            "refereed provers 2\tbound 8 patience 0 version 1 fan 2 digest sha256 ",
             START,
         ],
         told: BAD_HEAD,
     },
     Row {
         pieces: &[
-            b"refereed provers 2 bound 8 patience 00 version 1 fan 2 digest sha256 ",
+            "refereed provers 2 bound 8 patience 00 version 1 fan 2 digest sha256 ",
             START,
         ],
         told: BAD_HEAD,
     },
     Row {
         pieces: &[
-            b"refereed provers 2 bound 8\0 patience 0 version 1 fan 2 digest sha256 ",
+            "refereed provers 2 bound 8\0 patience 0 version 1 fan 2 digest sha256 ",
             START,
         ],
         told: BAD_HEAD,
     },
     Row {
         pieces: &[
-            b"refereed provers 2 bound patience 0 version 1 fan 2 digest sha256 ",
+            "refereed provers 2 bound patience 0 version 1 fan 2 digest sha256 ",
             START,
         ],
         told: BAD_HEAD,
     },
     Row {
         pieces: &[
-            b" refereed provers 2 bound 8 patience 0 version 1 fan 2 digest sha256 ",
+            " refereed provers 2 bound 8 patience 0 version 1 fan 2 digest sha256 ",
             START,
         ],
         told: BAD_HEAD,
     },
     Row {
         pieces: &[
-            b"match provers 2 bound 8 patience 0 version 1 fan 2 digest sha256 ",
+            "match provers 2 bound 8 patience 0 version 1 fan 2 digest sha256 ",
             START,
         ],
         told: BAD_HEAD,
@@ -324,39 +322,39 @@ pub fn bad_heads() -> &'static [Row] {
 /// A root has 64 digits of lower case, and the line feed follows it.
 const ROOT_ENDS: [Row; 9] = [
     Row {
-        pieces: &[NUMBERS, CUT_START, b"ff\n"],
+        pieces: &[NUMBERS, CUT_START, "ff\n"],
         told: NO_MOVES,
     },
     Row {
-        pieces: &[NUMBERS, CUT_START, b"fF\n"],
+        pieces: &[NUMBERS, CUT_START, "fF\n"],
         told: BAD_HEAD,
     },
     Row {
-        pieces: &[NUMBERS, CUT_START, b"fg\n"],
+        pieces: &[NUMBERS, CUT_START, "fg\n"],
         told: BAD_HEAD,
     },
     Row {
-        pieces: &[NUMBERS, CUT_START, b"f\n"],
+        pieces: &[NUMBERS, CUT_START, "f\n"],
         told: BAD_HEAD,
     },
     Row {
-        pieces: &[NUMBERS, CUT_START, b"\n"],
+        pieces: &[NUMBERS, CUT_START, "\n"],
         told: BAD_HEAD,
     },
     Row {
-        pieces: &[NUMBERS, CUT_START, b"ff00\n"],
+        pieces: &[NUMBERS, CUT_START, "ff00\n"],
         told: BAD_HEAD,
     },
     Row {
-        pieces: &[NUMBERS, CUT_START, b"ff \n"],
+        pieces: &[NUMBERS, CUT_START, "ff \n"],
         told: BAD_HEAD,
     },
     Row {
-        pieces: &[NUMBERS, CUT_START, b"ff\r\n"],
+        pieces: &[NUMBERS, CUT_START, "ff\r\n"],
         told: BAD_HEAD,
     },
     Row {
-        pieces: &[NUMBERS, b"start \n"],
+        pieces: &[NUMBERS, "start \n"],
         told: BAD_HEAD,
     },
 ];

@@ -9,12 +9,12 @@ use std::test::Fail;
 use transcript_text::{TextFault, read_full};
 
 /// A prover's root, 33 bytes.
-const ROOT: &[u8] = b"020001020304050607080910111213141516171819202122232425262728293031";
+const ROOT: &str = "020001020304050607080910111213141516171819202122232425262728293031";
 
-const END: &[u8] = b"none left\n";
+const END: &str = "none left\n";
 
 /// A line of no form.
-const NO_FORM: &[u8] = b"nonsense\n";
+const NO_FORM: &str = "nonsense\n";
 
 const CUT: Told = Told::Fault(TextFault::Truncated);
 
@@ -32,17 +32,17 @@ fn read(alloc: Global, bytes: &[u8]) -> Result<Told, Memory> {
 }
 
 /// These pieces, one behind another, with this behind them.
-fn joined(alloc: Global, pieces: &[&[u8]], end: &[u8]) -> Result<Vec<u8>, Memory> {
+fn joined(alloc: Global, pieces: &[&str], end: &str) -> Result<Vec<u8>, Memory> {
     let mut bytes = Vec::new(alloc);
     for piece in pieces {
-        bytes.extend_from_slice(piece)?;
+        bytes.extend_from_slice(piece.as_bytes())?;
     }
-    bytes.extend_from_slice(end)?;
+    bytes.extend_from_slice(end.as_bytes())?;
     Ok(bytes)
 }
 
 /// What is read of these pieces with this behind them.
-fn read_pieces(alloc: Global, pieces: &[&[u8]], end: &[u8]) -> Result<Told, Memory> {
+fn read_pieces(alloc: Global, pieces: &[&str], end: &str) -> Result<Told, Memory> {
     let bytes = joined(alloc, pieces, end)?;
     read(alloc, bytes.as_slice())
 }
@@ -50,27 +50,27 @@ fn read_pieces(alloc: Global, pieces: &[&[u8]], end: &[u8]) -> Result<Told, Memo
 /// A text that ends before its verdict is cut off, and so is a line without its line feed, whatever its form.
 const CUT_OFF: [Row; 9] = [
     Row {
-        pieces: &[NUMBERS, START, b""],
+        pieces: &[NUMBERS, START, ""],
         told: CUT,
     },
     Row {
-        pieces: &[NUMBERS, START, b"move 0 0 p1 spent"],
+        pieces: &[NUMBERS, START, "move 0 0 p1 spent"],
         told: CUT,
     },
     Row {
-        pieces: &[NUMBERS, START, b"move 0 0 p9 spent"],
+        pieces: &[NUMBERS, START, "move 0 0 p9 spent"],
         told: CUT,
     },
     Row {
-        pieces: &[NUMBERS, START, b"nonsense"],
+        pieces: &[NUMBERS, START, "nonsense"],
         told: CUT,
     },
     Row {
-        pieces: &[NUMBERS, START, b"move 0 0 p1 spent\n"],
+        pieces: &[NUMBERS, START, "move 0 0 p1 spent\n"],
         told: CUT,
     },
     Row {
-        pieces: &[NUMBERS, START, b"none left"],
+        pieces: &[NUMBERS, START, "none left"],
         told: CUT,
     },
     Row {
@@ -82,7 +82,7 @@ const CUT_OFF: [Row; 9] = [
         told: CUT,
     },
     Row {
-        pieces: &[b"refereed provers 17"],
+        pieces: &["refereed provers 17"],
         told: CUT,
     },
 ];
@@ -95,91 +95,91 @@ fn cut_off() -> &'static [Row] {
 /// A move has one form, which is tested before its prover's number, and is of a prover.
 const MOVES: [Row; 22] = [
     Row {
-        pieces: &[NUMBERS, START, b"move 0 0 p1 spent\n"],
+        pieces: &[NUMBERS, START, "move 0 0 p1 spent\n"],
         told: Told::Moves(1),
     },
     Row {
-        pieces: &[NUMBERS, START, b"move 4294967295 4294967295 p2 spent\n"],
+        pieces: &[NUMBERS, START, "move 4294967295 4294967295 p2 spent\n"],
         told: Told::Moves(1),
     },
     Row {
-        pieces: &[NUMBERS, START, b"move 0 0 p0 spent\n"],
+        pieces: &[NUMBERS, START, "move 0 0 p0 spent\n"],
         told: SECOND_OUT_OF_RANGE,
     },
     Row {
-        pieces: &[NUMBERS, START, b"move 0 0 p3 spent\n"],
+        pieces: &[NUMBERS, START, "move 0 0 p3 spent\n"],
         told: SECOND_OUT_OF_RANGE,
     },
     Row {
-        pieces: &[NUMBERS, START, b"move 0 0 p4294967295 spent\n"],
+        pieces: &[NUMBERS, START, "move 0 0 p4294967295 spent\n"],
         told: SECOND_OUT_OF_RANGE,
     },
     Row {
-        pieces: &[NUMBERS, START, b"move 4294967296 0 p1 spent\n"],
+        pieces: &[NUMBERS, START, "move 4294967296 0 p1 spent\n"],
         told: BAD_SECOND,
     },
     Row {
-        pieces: &[NUMBERS, START, b"move 0 4294967296 p1 spent\n"],
+        pieces: &[NUMBERS, START, "move 0 4294967296 p1 spent\n"],
         told: BAD_SECOND,
     },
     Row {
-        pieces: &[NUMBERS, START, b"move 0 0 p4294967296 spent\n"],
+        pieces: &[NUMBERS, START, "move 0 0 p4294967296 spent\n"],
         told: BAD_SECOND,
     },
     Row {
-        pieces: &[NUMBERS, START, b"move 0 0 p3 spend\n"],
+        pieces: &[NUMBERS, START, "move 0 0 p3 spend\n"],
         told: BAD_SECOND,
     },
     Row {
-        pieces: &[NUMBERS, START, b"move 0 0 p3 given 07\n"],
+        pieces: &[NUMBERS, START, "move 0 0 p3 given 07\n"],
         told: BAD_SECOND,
     },
     Row {
-        pieces: &[NUMBERS, START, b"move 0 0 p1 given \n"],
+        pieces: &[NUMBERS, START, "move 0 0 p1 given \n"],
         told: BAD_SECOND,
     },
     Row {
-        pieces: &[NUMBERS, START, b"move 0 0 p1 given\n"],
+        pieces: &[NUMBERS, START, "move 0 0 p1 given\n"],
         told: BAD_SECOND,
     },
     Row {
-        pieces: &[NUMBERS, START, b"move 0 0 p1 spent \n"],
+        pieces: &[NUMBERS, START, "move 0 0 p1 spent \n"],
         told: BAD_SECOND,
     },
     Row {
-        pieces: &[NUMBERS, START, b"move 0 0 p1 spent\r\n"],
+        pieces: &[NUMBERS, START, "move 0 0 p1 spent\r\n"],
         told: BAD_SECOND,
     },
     Row {
-        pieces: &[NUMBERS, START, b"move 00 0 p1 spent\n"],
+        pieces: &[NUMBERS, START, "move 00 0 p1 spent\n"],
         told: BAD_SECOND,
     },
     Row {
-        pieces: &[NUMBERS, START, b"move 0 01 p1 spent\n"],
+        pieces: &[NUMBERS, START, "move 0 01 p1 spent\n"],
         told: BAD_SECOND,
     },
     Row {
-        pieces: &[NUMBERS, START, b"move 0 0 p01 spent\n"],
+        pieces: &[NUMBERS, START, "move 0 0 p01 spent\n"],
         told: BAD_SECOND,
     },
     Row {
-        pieces: &[NUMBERS, START, b"move 0 0 p+1 spent\n"],
+        pieces: &[NUMBERS, START, "move 0 0 p+1 spent\n"],
         told: BAD_SECOND,
     },
     Row {
-        pieces: &[NUMBERS, START, b"move 0  0 p1 spent\n"],
+        pieces: &[NUMBERS, START, "move 0  0 p1 spent\n"],
         told: BAD_SECOND,
     },
     Row {
-        pieces: &[NUMBERS, START, b"move -1 0 p1 spent\n"],
+        pieces: &[NUMBERS, START, "move -1 0 p1 spent\n"],
         told: BAD_SECOND,
     },
     Row {
-        pieces: &[NUMBERS, START, b"move 0 0 1 spent\n"],
+        pieces: &[NUMBERS, START, "move 0 0 1 spent\n"],
         told: BAD_SECOND,
     },
     Row {
-        pieces: &[NUMBERS, START, b"\n"],
+        pieces: &[NUMBERS, START, "\n"],
         told: BAD_SECOND,
     },
 ];
@@ -192,31 +192,31 @@ fn moves() -> &'static [Row] {
 /// An answer is the digits of its wire form, and no others.
 const ANSWERS: [Row; 7] = [
     Row {
-        pieces: &[NUMBERS, START, b"move 1 1 p2 ", b"given ", ROOT, b"\n"],
+        pieces: &[NUMBERS, START, "move 1 1 p2 ", "given ", ROOT, "\n"],
         told: Told::Moves(1),
     },
     Row {
-        pieces: &[NUMBERS, START, b"move 1 1 p2 ", b"faulty ", ROOT, b"\n"],
+        pieces: &[NUMBERS, START, "move 1 1 p2 ", "faulty ", ROOT, "\n"],
         told: Told::Moves(1),
     },
     Row {
-        pieces: &[NUMBERS, START, b"move 1 1 p2 ", b"given ", ROOT, b"00\n"],
+        pieces: &[NUMBERS, START, "move 1 1 p2 ", "given ", ROOT, "00\n"],
         told: BAD_SECOND,
     },
     Row {
-        pieces: &[NUMBERS, START, b"move 1 1 p2 ", b"given ", ROOT, b"0\n"],
+        pieces: &[NUMBERS, START, "move 1 1 p2 ", "given ", ROOT, "0\n"],
         told: BAD_SECOND,
     },
     Row {
-        pieces: &[NUMBERS, START, b"move 1 1 p2 ", b"given  ", ROOT, b"\n"],
+        pieces: &[NUMBERS, START, "move 1 1 p2 ", "given  ", ROOT, "\n"],
         told: BAD_SECOND,
     },
     Row {
-        pieces: &[NUMBERS, START, b"move 1 1 p2 ", b"given 01", ROOT, b"\n"],
+        pieces: &[NUMBERS, START, "move 1 1 p2 ", "given 01", ROOT, "\n"],
         told: BAD_SECOND,
     },
     Row {
-        pieces: &[NUMBERS, START, b"move 1 1 p2 ", b"given A", ROOT, b"\n"],
+        pieces: &[NUMBERS, START, "move 1 1 p2 ", "given A", ROOT, "\n"],
         told: BAD_SECOND,
     },
 ];
@@ -229,26 +229,26 @@ fn answers() -> &'static [Row] {
 /// The first line with a fault is named, whatever the fault.
 const TWO_FAULTS: [Row; 8] = [
     Row {
-        pieces: &[NUMBERS, START, b"move 0 0 p3 spent\nnonsense\nnone left\n"],
+        pieces: &[NUMBERS, START, "move 0 0 p3 spent\nnonsense\nnone left\n"],
         told: SECOND_OUT_OF_RANGE,
     },
     Row {
-        pieces: &[NUMBERS, START, b"nonsense\nmove 0 0 p3 spent\nnone left\n"],
+        pieces: &[NUMBERS, START, "nonsense\nmove 0 0 p3 spent\nnone left\n"],
         told: BAD_SECOND,
     },
     Row {
-        pieces: &[NUMBERS, START, b"nonsense\nmove 0 0 p3"],
+        pieces: &[NUMBERS, START, "nonsense\nmove 0 0 p3"],
         told: BAD_SECOND,
     },
     Row {
-        pieces: &[NUMBERS, START, b"move 0 0 p3 spent\nmove"],
+        pieces: &[NUMBERS, START, "move 0 0 p3 spent\nmove"],
         told: SECOND_OUT_OF_RANGE,
     },
     Row {
         pieces: &[
             NUMBERS,
             START,
-            b"move 0 0 p1 spent\nmove 0 0 p2 spent\nnone left\n",
+            "move 0 0 p1 spent\nmove 0 0 p2 spent\nnone left\n",
         ],
         told: Told::Moves(2),
     },
@@ -256,7 +256,7 @@ const TWO_FAULTS: [Row; 8] = [
         pieces: &[
             NUMBERS,
             START,
-            b"move 0 0 p1 spent\nmove 0 0 p3 spent\nnone left\n",
+            "move 0 0 p1 spent\nmove 0 0 p3 spent\nnone left\n",
         ],
         told: Told::Fault(TextFault::OutOfRange(3)),
     },
@@ -264,16 +264,12 @@ const TWO_FAULTS: [Row; 8] = [
         pieces: &[
             NUMBERS,
             START,
-            b"move 0 0 p1 spent\nmove 0 0 p2 spend\nnone left\n",
+            "move 0 0 p1 spent\nmove 0 0 p2 spend\nnone left\n",
         ],
         told: Told::Fault(TextFault::BadLine(3)),
     },
     Row {
-        pieces: &[
-            NUMBERS,
-            START,
-            b"move 0 0 p1 spent\nmove 0 0 p2 spent\nnone",
-        ],
+        pieces: &[NUMBERS, START, "move 0 0 p1 spent\nmove 0 0 p2 spent\nnone"],
         told: CUT,
     },
 ];
@@ -286,23 +282,23 @@ fn two_faults() -> &'static [Row] {
 /// Nothing follows the verdict.
 const BEHIND: [Row; 5] = [
     Row {
-        pieces: &[NUMBERS, START, END, b"none left\n"],
+        pieces: &[NUMBERS, START, END, "none left\n"],
         told: ONE_TOO_MANY,
     },
     Row {
-        pieces: &[NUMBERS, START, END, b"\n"],
+        pieces: &[NUMBERS, START, END, "\n"],
         told: ONE_TOO_MANY,
     },
     Row {
-        pieces: &[NUMBERS, START, END, b"nonsense\nmove"],
+        pieces: &[NUMBERS, START, END, "nonsense\nmove"],
         told: ONE_TOO_MANY,
     },
     Row {
-        pieces: &[NUMBERS, START, END, b"none left"],
+        pieces: &[NUMBERS, START, END, "none left"],
         told: CUT,
     },
     Row {
-        pieces: &[NUMBERS, START, END, b"\x00"],
+        pieces: &[NUMBERS, START, END, "\0"],
         told: CUT,
     },
 ];
@@ -315,83 +311,83 @@ fn behind() -> &'static [Row] {
 /// Which verdicts have their form.
 const VERDICTS: [Row; 20] = [
     Row {
-        pieces: &[NUMBERS, START, b"accept running output\n"],
+        pieces: &[NUMBERS, START, "accept running output\n"],
         told: NO_MOVES,
     },
     Row {
-        pieces: &[NUMBERS, START, b"accept exited 0 output 2a\n"],
+        pieces: &[NUMBERS, START, "accept exited 0 output 2a\n"],
         told: NO_MOVES,
     },
     Row {
-        pieces: &[NUMBERS, START, b"accept exited 4294967295 output 00ff\n"],
+        pieces: &[NUMBERS, START, "accept exited 4294967295 output 00ff\n"],
         told: NO_MOVES,
     },
     Row {
-        pieces: &[NUMBERS, START, b"accept trapped 8 output\n"],
+        pieces: &[NUMBERS, START, "accept trapped 8 output\n"],
         told: NO_MOVES,
     },
     Row {
-        pieces: &[NUMBERS, START, b"collision 00 0001\n"],
+        pieces: &[NUMBERS, START, "collision 00 0001\n"],
         told: NO_MOVES,
     },
     Row {
-        pieces: &[NUMBERS, START, b"accept running output \n"],
+        pieces: &[NUMBERS, START, "accept running output \n"],
         told: BAD_SECOND,
     },
     Row {
-        pieces: &[NUMBERS, START, b"accept running output 2\n"],
+        pieces: &[NUMBERS, START, "accept running output 2\n"],
         told: BAD_SECOND,
     },
     Row {
-        pieces: &[NUMBERS, START, b"accept running output 2A\n"],
+        pieces: &[NUMBERS, START, "accept running output 2A\n"],
         told: BAD_SECOND,
     },
     Row {
-        pieces: &[NUMBERS, START, b"accept running output 2a \n"],
+        pieces: &[NUMBERS, START, "accept running output 2a \n"],
         told: BAD_SECOND,
     },
     Row {
-        pieces: &[NUMBERS, START, b"accept running 0 output\n"],
+        pieces: &[NUMBERS, START, "accept running 0 output\n"],
         told: BAD_SECOND,
     },
     Row {
-        pieces: &[NUMBERS, START, b"accept exited output\n"],
+        pieces: &[NUMBERS, START, "accept exited output\n"],
         told: BAD_SECOND,
     },
     Row {
-        pieces: &[NUMBERS, START, b"accept exited 00 output\n"],
+        pieces: &[NUMBERS, START, "accept exited 00 output\n"],
         told: BAD_SECOND,
     },
     Row {
-        pieces: &[NUMBERS, START, b"accept exited 4294967296 output\n"],
+        pieces: &[NUMBERS, START, "accept exited 4294967296 output\n"],
         told: BAD_SECOND,
     },
     Row {
-        pieces: &[NUMBERS, START, b"accept halted 0 output\n"],
+        pieces: &[NUMBERS, START, "accept halted 0 output\n"],
         told: BAD_SECOND,
     },
     Row {
-        pieces: &[NUMBERS, START, b"collision 00\n"],
+        pieces: &[NUMBERS, START, "collision 00\n"],
         told: BAD_SECOND,
     },
     Row {
-        pieces: &[NUMBERS, START, b"collision 00 \n"],
+        pieces: &[NUMBERS, START, "collision 00 \n"],
         told: BAD_SECOND,
     },
     Row {
-        pieces: &[NUMBERS, START, b"collision  00\n"],
+        pieces: &[NUMBERS, START, "collision  00\n"],
         told: BAD_SECOND,
     },
     Row {
-        pieces: &[NUMBERS, START, b"collision 00 00 00\n"],
+        pieces: &[NUMBERS, START, "collision 00 00 00\n"],
         told: BAD_SECOND,
     },
     Row {
-        pieces: &[NUMBERS, START, b"none left \n"],
+        pieces: &[NUMBERS, START, "none left \n"],
         told: BAD_SECOND,
     },
     Row {
-        pieces: &[NUMBERS, START, b"none  left\n"],
+        pieces: &[NUMBERS, START, "none  left\n"],
         told: BAD_SECOND,
     },
 ];
@@ -401,43 +397,87 @@ fn verdicts() -> &'static [Row] {
     &VERDICTS
 }
 
-/// The first row of which something else is read, with this behind it.
-fn first_other(alloc: Global, rows: &[Row], end: &[u8]) -> Result<Option<usize>, Memory> {
-    for (place, row) in rows.iter().enumerate() {
-        if read_pieces(alloc, row.pieces, end)? != row.told {
-            return Ok(Some(place));
+/// The first row of which something else is read with this behind it, with what is read.
+fn first_other(alloc: Global, rows: &[Row], end: &str) -> Result<Option<Row>, Memory> {
+    for row in rows {
+        let told = read_pieces(alloc, row.pieces, end)?;
+        if told != row.told {
+            return Ok(Some(Row { told, ..*row }));
         }
     }
     Ok(None)
 }
 
-/// The tables, each with what stands behind its rows.
-fn tables() -> [(&'static [Row], &'static [u8]); 13] {
+/// Rows of texts behind which this stands.
+#[derive(Clone, Copy)]
+struct Table {
+    rows: &'static [Row],
+    end: &'static str,
+}
+
+fn tables() -> [Table; 13] {
     [
-        (heads_in_range(), END),
-        (heads_before_no_form(), NO_FORM),
-        (heads_out_of_range(), END),
-        (heads_out_of_range(), NO_FORM),
-        (bad_heads(), END),
-        (bad_heads(), NO_FORM),
-        (root_ends(), END),
-        (cut_off(), b""),
-        (moves(), END),
-        (answers(), END),
-        (two_faults(), b""),
-        (behind(), b""),
-        (verdicts(), b""),
+        Table {
+            rows: heads_in_range(),
+            end: END,
+        },
+        Table {
+            rows: heads_before_no_form(),
+            end: NO_FORM,
+        },
+        Table {
+            rows: heads_out_of_range(),
+            end: END,
+        },
+        Table {
+            rows: heads_out_of_range(),
+            end: NO_FORM,
+        },
+        Table {
+            rows: bad_heads(),
+            end: END,
+        },
+        Table {
+            rows: bad_heads(),
+            end: NO_FORM,
+        },
+        Table {
+            rows: root_ends(),
+            end: END,
+        },
+        Table {
+            rows: cut_off(),
+            end: "",
+        },
+        Table {
+            rows: moves(),
+            end: END,
+        },
+        Table {
+            rows: answers(),
+            end: END,
+        },
+        Table {
+            rows: two_faults(),
+            end: "",
+        },
+        Table {
+            rows: behind(),
+            end: "",
+        },
+        Table {
+            rows: verdicts(),
+            end: "",
+        },
     ]
 }
 
-/// The first table with such a row, and the row.
-fn first_table(
-    alloc: Global,
-    tables: &[(&[Row], &[u8])],
-) -> Result<Option<(usize, usize)>, Memory> {
-    for (table, (rows, end)) in tables.iter().enumerate() {
-        if let Some(place) = first_other(alloc, *rows, *end)? {
-            return Ok(Some((table, place)));
+/// The first such row of these tables.
+fn first_of_tables(alloc: Global, tables: &[Table]) -> Result<Option<Row>, Memory> {
+    for Table { rows, end } in tables {
+        let other = first_other(alloc, *rows, *end)?;
+        if other.is_some() {
+            return Ok(other);
         }
     }
     Ok(None)
@@ -445,33 +485,34 @@ fn first_table(
 
 #[test]
 fn the_first_fault_of_a_text_is_found(rt: HostRuntime) -> Result<(), Fail> {
-    assert_eq!(rt; first_table(rt.alloc(), &tables())?, None);
+    let other = first_of_tables(rt.alloc(), &tables())?;
+    assert!(rt; other.is_none(), "{other:?}");
     Ok(())
 }
 
 /// The digits of a string of 129 bytes.
-const MOST: &[u8] = b"\
+const MOST: &str = "\
         7f7f7f7f7f7f7f7f7f7f7f7f7f7f7f7f7f7f7f7f7f7f7f7f7f7f7f7f7f7f7f7f7f7f7f7f7f7f7f7f7f7f7f\
         7f7f7f7f7f7f7f7f7f7f7f7f7f7f7f7f7f7f7f7f7f7f7f7f7f7f7f7f7f7f7f7f7f7f7f7f7f7f7f7f7f7f7f\
         7f7f7f7f7f7f7f7f7f7f7f7f7f7f7f7f7f7f7f7f7f7f7f7f7f7f7f7f7f7f7f7f7f7f7f7f7f7f7f7f7f7f7f";
 
 /// A hundred digits of a number.
-const NINES: &[u8] =
-    b"9999999999999999999999999999999999999999999999999999999999999999999999999999999999999999999999999999";
+const NINES: &str =
+    "9999999999999999999999999999999999999999999999999999999999999999999999999999999999999999999999999999";
 
 /// A collision's strings have at most 129 bytes. A number of a thousand digits is out of range in line 1, and no form in a later line.
 const LONG: [Row; 4] = [
     Row {
-        pieces: &[NUMBERS, START, b"collision ", MOST, b" 00\n"],
+        pieces: &[NUMBERS, START, "collision ", MOST, " 00\n"],
         told: NO_MOVES,
     },
     Row {
-        pieces: &[NUMBERS, START, b"collision ", MOST, b"7f 00\n"],
+        pieces: &[NUMBERS, START, "collision ", MOST, "7f 00\n"],
         told: BAD_SECOND,
     },
     Row {
         pieces: &[
-            b"refereed provers ",
+            "refereed provers ",
             NINES,
             NINES,
             NINES,
@@ -482,7 +523,7 @@ const LONG: [Row; 4] = [
             NINES,
             NINES,
             NINES,
-            b" bound 8 patience 0 version 1 fan 2 digest sha256 ",
+            " bound 8 patience 0 version 1 fan 2 digest sha256 ",
             START,
             END,
         ],
@@ -492,7 +533,7 @@ const LONG: [Row; 4] = [
         pieces: &[
             NUMBERS,
             START,
-            b"move 0 0 p",
+            "move 0 0 p",
             NINES,
             NINES,
             NINES,
@@ -503,7 +544,7 @@ const LONG: [Row; 4] = [
             NINES,
             NINES,
             NINES,
-            b" spent\n",
+            " spent\n",
             END,
         ],
         told: BAD_SECOND,
@@ -517,6 +558,7 @@ fn long() -> &'static [Row] {
 
 #[test]
 fn long_strings_and_numbers_are_read_to_their_end(rt: HostRuntime) -> Result<(), Fail> {
-    assert_eq!(rt; first_other(rt.alloc(), long(), b"")?, None);
+    let other = first_other(rt.alloc(), long(), "")?;
+    assert!(rt; other.is_none(), "{other:?}");
     Ok(())
 }

@@ -23,7 +23,11 @@ pub(crate) struct Row {
 }
 
 /// The balances of provers, and the pool.
-pub(crate) type Funds = (&'static [u64], u64);
+#[derive(Clone, Copy)]
+pub(crate) struct Funds {
+    pub of: &'static [u64],
+    pub pool: u64,
+}
 
 /// The terms of a row's match, in this order of the players.
 fn terms_of(row: &Row, order: &'static [usize]) -> Terms {
@@ -77,7 +81,7 @@ fn reported<R: Threads + Sync>(
     requires { IsSync R.row }
 {
     match funds {
-        Some((of, pool)) => {
+        Some(Funds { of, pool }) => {
             let of = Listed::new(of.to_vec(alloc)?);
             balanced(rt, alloc, terms, Balances { of, pool })
         }
@@ -91,34 +95,51 @@ fn is_report(alloc: Global, terms: Terms, lines: &str, text: &[u8]) -> Result<bo
     Ok(text == want.as_bytes())
 }
 
-/// Whether the match of a row has its report, if the players move in this order.
-pub(crate) fn has_report<R: Threads + Sync>(
+/// A report in the place of another one.
+#[derive(Debug, Drop)]
+pub(crate) struct Other {
+    /// Which row or order has it.
+    pub place: usize,
+    pub text: String,
+    /// The prover whose claim is accepted; 0 if none is.
+    pub accepted: u32,
+}
+
+/// The report that the match of a row has in the place of its own, if the players move in this order.
+pub(crate) fn other_report<R: Threads + Sync>(
     rt: &R,
     alloc: Global,
     row: &Row,
     order: &'static [usize],
     funds: Option<Funds>,
-) -> Result<bool, Memory>
+    place: usize,
+) -> Result<Option<Other>, Memory>
     requires { IsSync R.row }
 {
     let terms = terms_of(row, order);
-    let (text, prover) = reported(rt, alloc, terms, funds)?;
-    let is_report = is_report(alloc, terms, row.lines, text.as_slice());
-    drop(text);
-    Ok(is_report? && prover == row.accepted)
+    let (text, accepted) = reported(rt, alloc, terms, funds)?;
+    if is_report(alloc, terms, row.lines, text.as_slice())? && accepted == row.accepted {
+        return Ok(None);
+    }
+    Ok(Some(Other {
+        place,
+        text: String::from_utf8(text).unwrap_or(String::new(alloc)),
+        accepted,
+    }))
 }
 
-/// The first row whose match has another report.
+/// The first row whose match has another report, and that report.
 pub(crate) fn first_other<R: Threads + Sync>(
     rt: &R,
     alloc: Global,
     rows: &[Row],
-) -> Result<Option<usize>, Memory>
+) -> Result<Option<Other>, Memory>
     requires { IsSync R.row }
 {
     for (place, row) in rows.iter().enumerate() {
-        if !has_report(rt, alloc, row, HALVES.order, None)? {
-            return Ok(Some(place));
+        let other = other_report(rt, alloc, row, HALVES.order, None, place)?;
+        if other.is_some() {
+            return Ok(other);
         }
     }
     Ok(None)

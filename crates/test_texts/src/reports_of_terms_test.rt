@@ -6,7 +6,7 @@ use crate::playing::HALVES;
 use crate::playing::Who::{
     Honest, LateByOne, LaterLiarSilentFrom2, Liar, LiarFrom1, LiarFrom7, LiarSilentFrom2, Silent,
 };
-use crate::report_rows::{Row, first_other, has_report};
+use crate::report_rows::{Funds, Other, Row, first_other, other_report};
 use rd_base::Memory;
 use std::alloc::Global;
 use std::test::Fail;
@@ -57,12 +57,13 @@ fn first_other_order<R: Threads + Sync>(
     rt: &R,
     alloc: Global,
     row: &Row,
-) -> Result<Option<usize>, Memory>
+) -> Result<Option<Other>, Memory>
     requires { IsSync R.row }
 {
     for (place, order) in ORDERS.iter().enumerate() {
-        if !has_report(rt, alloc, row, *order, None)? {
-            return Ok(Some(place));
+        let other = other_report(rt, alloc, row, *order, None, place)?;
+        if other.is_some() {
+            return Ok(other);
         }
     }
     Ok(None)
@@ -71,7 +72,8 @@ fn first_other_order<R: Threads + Sync>(
 /// Whoever moves first, each of the six orders ends in one report.
 #[test]
 fn all_orders_end_in_one_report(rt: HostRuntime) -> Result<(), Fail> {
-    assert_eq!(rt; first_other_order(&rt, rt.alloc(), &in_any_order())?, None);
+    let other = first_other_order(&rt, rt.alloc(), &in_any_order())?;
+    assert!(rt; other.is_none(), "{other:?}");
     Ok(())
 }
 
@@ -192,12 +194,13 @@ fn parts() -> [Row; 6] {
 
 #[test]
 fn each_round_of_several_parts_has_its_line(rt: HostRuntime) -> Result<(), Fail> {
-    assert_eq!(rt; first_other(&rt, rt.alloc(), &parts())?, None);
+    let other = first_other(&rt, rt.alloc(), &parts())?;
+    assert!(rt; other.is_none(), "{other:?}");
     Ok(())
 }
 
 /// In a match with deposits the balances of the provers and the pool are written before the verdict.
-const BALANCES: [(Row, &[u64], u64); 2] = [
+const BALANCES: [(Row, Funds); 2] = [
     (
         Row {
             players: &[Honest, Liar],
@@ -219,8 +222,10 @@ const BALANCES: [(Row, &[u64], u64); 2] = [
                 pool 0\n\
                 accept running output\n",
         },
-        &[20, 0],
-        0,
+        Funds {
+            of: &[20, 0],
+            pool: 0,
+        },
     ),
     (
         Row {
@@ -238,13 +243,15 @@ const BALANCES: [(Row, &[u64], u64); 2] = [
                 pool 18446744073709551615\n\
                 none left\n",
         },
-        &[0, 1_000_000_000],
-        18_446_744_073_709_551_615,
+        Funds {
+            of: &[0, 1_000_000_000],
+            pool: 18_446_744_073_709_551_615,
+        },
     ),
 ];
 
 /// These rows as a value.
-fn balances() -> [(Row, &'static [u64], u64); 2] {
+fn balances() -> [(Row, Funds); 2] {
     BALANCES
 }
 
@@ -252,13 +259,14 @@ fn balances() -> [(Row, &'static [u64], u64); 2] {
 fn first_other_balances<R: Threads + Sync>(
     rt: &R,
     alloc: Global,
-    rows: &[(Row, &'static [u64], u64)],
-) -> Result<Option<usize>, Memory>
+    rows: &[(Row, Funds)],
+) -> Result<Option<Other>, Memory>
     requires { IsSync R.row }
 {
-    for (place, (row, of, pool)) in rows.iter().enumerate() {
-        if !has_report(rt, alloc, row, HALVES.order, Some((*of, *pool)))? {
-            return Ok(Some(place));
+    for (place, (row, funds)) in rows.iter().enumerate() {
+        let other = other_report(rt, alloc, row, HALVES.order, Some(*funds), place)?;
+        if other.is_some() {
+            return Ok(other);
         }
     }
     Ok(None)
@@ -266,6 +274,7 @@ fn first_other_balances<R: Threads + Sync>(
 
 #[test]
 fn balances_stand_before_the_verdict(rt: HostRuntime) -> Result<(), Fail> {
-    assert_eq!(rt; first_other_balances(&rt, rt.alloc(), &balances())?, None);
+    let other = first_other_balances(&rt, rt.alloc(), &balances())?;
+    assert!(rt; other.is_none(), "{other:?}");
     Ok(())
 }

@@ -116,10 +116,13 @@ fn is_line(alloc: Global, word: u32, line: &[u8]) -> Result<bool, Fail> {
 }
 
 /// The first line that isn't the listing of its word, or is assembled to another one.
-fn first_other_line(alloc: Global, lines: &[(u32, &str)]) -> Result<Option<usize>, Fail> {
-    for (row, (word, line)) in lines.iter().enumerate() {
+fn first_other_line(
+    alloc: Global,
+    lines: &[(u32, &'static str)],
+) -> Result<Option<&'static str>, Fail> {
+    for (word, line) in lines {
         if !is_line(alloc, *word, line.as_bytes())? {
-            return Ok(Some(row));
+            return Ok(Some(*line));
         }
     }
     Ok(None)
@@ -200,15 +203,19 @@ fn faults() -> &'static [(&'static [u8], FaultKind, u32)] {
     &FAULTS
 }
 
-/// The first row whose text has another fault.
-fn first_other_fault(alloc: Global, faults: &[(&[u8], FaultKind, u32)]) -> Option<usize> {
+/// The first row whose text has another fault, and what it has.
+fn first_other_fault(
+    alloc: Global,
+    faults: &[(&[u8], FaultKind, u32)],
+) -> Option<(usize, Option<AsmFault>)> {
     for (row, (text, kind, line)) in faults.iter().enumerate() {
         let want = AsmFault {
             kind: *kind,
             line: *line,
         };
-        if fault_of(alloc, *text) != Some(want) {
-            return Some(row);
+        let fault = fault_of(alloc, *text);
+        if fault != Some(want) {
+            return Some((row, fault));
         }
     }
     None
